@@ -1,0 +1,4 @@
+pub mod Pieces
+pub mod Devices
+pub mod Words
+pub mod Sectors
