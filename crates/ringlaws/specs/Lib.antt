@@ -1,0 +1,5 @@
+pub mod Layout
+pub mod TxnInfo
+pub mod Spells
+pub mod Sound
+pub mod Newest
