@@ -124,7 +124,7 @@ module _ {R : Type 0} (kind : Kind R) (m : Machine) where
   abbrev pub formatPlan : Plan R
   formatPlan =
       cond (fitSizes (m .devices .nvm .size) (blocksOf m))
-      (record { acts = formatActs (placesOf m) (blocksOf m); answer = Done; state = Unmounted; list = m .list })
+      (record { acts = formatActs (placesOf m) (blocksOf m); answer = Done; state = Unmounted; list = [] })
       (refusing m BadSize)
 
   -- its refusals by the contents come after everything was settled, which changes no present contents

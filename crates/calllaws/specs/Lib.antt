@@ -1,0 +1,4 @@
+pub mod Holds
+pub mod CommitLaw
+pub mod CheckpointLaw
+pub mod FormatLaw
