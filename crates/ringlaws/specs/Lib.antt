@@ -3,3 +3,5 @@ pub mod TxnInfo
 pub mod Spells
 pub mod Sound
 pub mod Newest
+pub mod Appends
+pub mod Laws
