@@ -95,6 +95,9 @@ good B left u g =
       padding = z;
     }
 
+pub good-count : (B left : ℕ) (u : List ℕ) → goodInfo B left u ≡ true → goodCount left u ≡ true
+good-count B left u g = and-parts _ _ (and-parts _ _ g .1) .0
+
 zero-at : (xs : List ℕ) → allZero xs ≡ true → (i : ℕ) → getD xs i 0 ≡ 0
 unfolding allZero
 zero-at [] z i = refl

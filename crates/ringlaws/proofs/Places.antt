@@ -78,3 +78,10 @@ pub used-none : (N tail : ℕ) → tail < N → usedBetween N tail tail ≡ 0
 used-none N tail p =
     let x = wrap N ((tail + N) - tail) (omega arith) in
     omega arith
+
+-- two places less than N apart are different
+pub after-apart : (N p a b : ℕ) → p < N → a < b → b < N → after N p a ≡ after N p b → ⊥
+after-apart N p a b h lt l e =
+    let x = wrap N (p + a) (omega arith) in
+    let y = wrap N (p + b) (omega arith) in
+    omega arith

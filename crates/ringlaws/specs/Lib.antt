@@ -5,3 +5,4 @@ pub mod Sound
 pub mod Newest
 pub mod Appends
 pub mod Laws
+pub mod Examples
