@@ -5,7 +5,7 @@ use mathlib.Core.List.{List, [], _∷_, _++_, map}
 use mathlib.Core.Logic.{_⊎_, inl, inr}
 use Prim.Native.Nat.{ℕ, suc, _+_, _<_, _≤_}
 use native.Mathlib.Omega.{arith}
-use lib.Dec.{T, eqb, ltb, leb}
+use lib.Dec.{eqb, ltb}
 use lib.ListN.{length, length-append}
 use Rattle.std.proofs.shelf.Lists.{length-map}
 use Rattle.std.specs.Options.{valueOr}
@@ -137,10 +137,6 @@ put-good kind B t r u g inside room read =
         }
     ]
 
-holds-T : (b : Bool) → b ≡ true → T b
-holds-T true h = tt
-holds-T false h = absurd (both-ways false refl h)
-
 module _ {R : Type 0} (kind : Kind R) (lawful : Lawful kind) where
   whole-unit : (u : List ℕ) → Readable kind u → length u ≡ 32
   whole-unit u (inl e) = ap length e
@@ -155,8 +151,8 @@ module _ {R : Type 0} (kind : Kind R) (lawful : Lawful kind) where
   good-fair B s t g = record {
     least = omega arith;
     most = let h = g .most in let k = length-map (s ∷ t) (λ (x : Setting). x .number) in omega arith;
-    below = holds-T (allBelow (recordsOf B) (numbersOf (s ∷ t))) (g .below);
-    apart = holds-T (distinct (numbersOf (s ∷ t))) (g .apart);
+    below = g .below;
+    apart = g .apart;
     whole = whole-units (s ∷ t) (g .readable);
   }
 

@@ -1,2 +1,4 @@
 pub mod Own
 pub mod Goods
+pub mod Follows
+pub mod Went
