@@ -353,3 +353,58 @@ module _ {R : Type 0} (kind : Kind R) (lawful : Lawful kind) (parts : Runs-part)
               follow n (lay l units) Idle [] (c .0) (cs ++ (whole, l) ∷ []) (andNonempty ly l)
                 (stays-lit parts (commitActs (ownPlaces d) (ownWords d) l) d (n .devices) lit (w .acts)) (w .state) (w .list) (c .1) (λ e. c .2) (good-none kind B)
                 (lay-readable kind lawful l units (good .readable) readable) (commit-takes B whole l cs units commits))
+
+    -- every call that goes by its plan, by state and call
+    module _ (commit-law : Commits-are-atomic) (checkpoint-law : Checkpoints-keep-the-table) (mount-law : Mounts-keep-the-table) (l : Transaction) (cs : List (Fate × Transaction)) (ly : List Transaction) (good : Good kind B l) (commits : WholeAndInOrder B cs units) where
+      abbrev Goes : State → Call R → Type 0
+      Goes s call = (lying : (s ≡ Unmounted → ⊥) → ts ≡ ly) (a : Answer R) (n : Machine)
+          → Went (planOf kind (machine d s l) call) (machine d s l) a n → Owes kind N B (machine d s l) (live units s l) (tallied l cs ly) call n a
+
+      went-unmounted : (call : Call R) → isFormat call ≡ false → Goes Unmounted call
+      went-unmounted Format f lying a n w = absurd (both-ways true f refl)
+      went-unmounted Mount f lying a n w =
+          empties Unmounted l cs ly lying good commits (settlingBoth (ownPlaces d + 1) ++ checkpointActs (ownBlocks d) (ownWords d) ts (ownSectors d)) Idle a (Blocks (namedBlocks (ownBlocks d) ts)) n Mount
+          (mount-law (ownPlaces d) (ownBlocks d) (ownWords d) (ownSectors d) ts units d (o .ready) (o .holds))
+          (subst (λ (p : Plan R). Went p (machine d Unmounted l) a n) (mount-plan-is Unmounted l cs ly lying good commits) w)
+          (inr (inl (refl, (namedBlocks (ownBlocks d) ts, refl)))) refl refl
+      went-unmounted Begin f lying a n w = refuses Unmounted l cs ly lying good commits a n Begin NotMounted refl w (inr (inl (refl, refl)))
+      went-unmounted (Set r x) f lying a n w = refuses Unmounted l cs ly lying good commits a n (Set r x) NotMounted refl w (inr (inl (refl, refl)))
+      went-unmounted (Clear r) f lying a n w = refuses Unmounted l cs ly lying good commits a n (Clear r) NotMounted refl w (inr (inl (refl, refl)))
+      went-unmounted (Read r) f lying a n w = refuses Unmounted l cs ly lying good commits a n (Read r) NotMounted refl w (inr (inl (refl, refl)))
+      went-unmounted Commit f lying a n w = refuses Unmounted l cs ly lying good commits a n Commit NotMounted refl w (inr (inl (refl, refl)))
+      went-unmounted Abandon f lying a n w = refuses Unmounted l cs ly lying good commits a n Abandon NotMounted refl w (inr (inl (refl, refl)))
+      went-unmounted Checkpoint f lying a n w = refuses Unmounted l cs ly lying good commits a n Checkpoint NotMounted refl w (inr (inl (refl, refl)))
+      went-unmounted Close f lying a n w = refuses Unmounted l cs ly lying good commits a n Close NotMounted refl w (inr (inl (refl, refl)))
+
+      went-idle : (call : Call R) → isFormat call ≡ false → Goes Idle call
+      went-idle Format f lying a n w = absurd (both-ways true f refl)
+      went-idle Mount f lying a n w = refuses Idle l cs ly lying good commits a n Mount Mounted refl w (inr (inl (refl, refl)))
+      went-idle Begin f lying a n w = quietly Idle l cs ly lying good commits Open l a Done n Begin w (inr (inl (refl, refl))) refl refl (λ e. lying idle-mounted) good
+      went-idle (Set r x) f lying a n w = refuses Idle l cs ly lying good commits a n (Set r x) NotOpen refl w (inr (inl (refl, refl)))
+      went-idle (Clear r) f lying a n w = refuses Idle l cs ly lying good commits a n (Clear r) NotOpen refl w (inr (inl (refl, refl)))
+      went-idle (Read r) f lying a n w = reads Idle l cs ly lying good commits a n r (λ x e. inr (inl (refl, e))) w
+      went-idle Commit f lying a n w = refuses Idle l cs ly lying good commits a n Commit NotOpen refl w (inr (inl (refl, refl)))
+      went-idle Abandon f lying a n w = refuses Idle l cs ly lying good commits a n Abandon NotOpen refl w (inr (inl (refl, refl)))
+      went-idle Checkpoint f lying a n w =
+          checkpoints-to Idle l cs ly lying good commits checkpoint-law Idle a (Blocks (namedBlocks (ownBlocks d) (ringOf (ownPlaces d) (ownBlocks d) (ownWords d)))) n Checkpoint w
+          (inr (inl (refl, ap (λ (x : List Transaction). Blocks (namedBlocks (ownBlocks d) x)) (ring-is d ts units o ∙ lying idle-mounted)))) refl refl
+      went-idle Close f lying a n w = checkpoints-to Idle l cs ly lying good commits checkpoint-law Unmounted a Done n Close w (inr (inl (refl, refl))) refl refl
+
+      went-open : (call : Call R) → isFormat call ≡ false → Goes Open call
+      went-open Format f lying a n w = absurd (both-ways true f refl)
+      went-open Mount f lying a n w = refuses Open l cs ly lying good commits a n Mount Mounted refl w (inr (inl (refl, refl)))
+      went-open Begin f lying a n w = refuses Open l cs ly lying good commits a n Begin AlreadyOpen refl w (inr (inl (refl, refl)))
+      went-open (Set r x) f lying a n w = sets Open l cs ly lying good commits (kind .unit x) (inr (x, refl)) a n (Set r x) r refl refl (λ y e. inr (inl (refl, e))) w
+      went-open (Clear r) f lying a n w = sets Open l cs ly lying good commits zeroUnit (inl refl) a n (Clear r) r refl refl (λ y e. inr (inl (refl, e))) w
+      went-open (Read r) f lying a n w = reads Open l cs ly lying good commits a n r (λ x e. inr (inl (refl, e))) w
+      went-open Commit f lying a n w = commits-to Open l cs ly lying good commits commit-law open-mounted a n (λ x e. inr (inl (refl, e))) w
+      went-open Abandon f lying a n w = quietly Open l cs ly lying good commits Idle [] a Done n Abandon w (inr (inl (refl, refl))) refl refl (λ e. lying open-mounted) (good-none kind B)
+      went-open Checkpoint f lying a n w =
+          checkpoints-to Open l cs ly lying good commits checkpoint-law Open a (Blocks (namedBlocks (ownBlocks d) (ringOf (ownPlaces d) (ownBlocks d) (ownWords d)))) n Checkpoint w
+          (inr (inl (refl, ap (λ (x : List Transaction). Blocks (namedBlocks (ownBlocks d) x)) (ring-is d ts units o ∙ lying open-mounted)))) refl refl
+      went-open Close f lying a n w = refuses Open l cs ly lying good commits a n Close AlreadyOpen refl w (inr (inl (refl, refl)))
+
+      pub went-step : (s : State) (call : Call R) → isFormat call ≡ false → Goes s call
+      went-step Unmounted = went-unmounted
+      went-step Idle = went-idle
+      went-step Open = went-open
