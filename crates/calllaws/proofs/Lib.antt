@@ -1,0 +1,2 @@
+pub mod CommitPlaces
+pub mod CommitActs
