@@ -9,8 +9,8 @@ use lib.ListN.{length, getD}
 use native.Mathlib.Omega.{arith}
 use Rattle.std.proofs.shelf.Ways.{tells}
 use Rattle.std.proofs.shelf.Tests.{eqb-true, or-parts, true≢false}
-use Rattle.device.specs.Pieces.{settled}
-use Rattle.device.specs.Words.{NvmAct, Store, Flush, Fence, nvmRules}
+use Rattle.device.specs.Pieces.{settled, unsettled}
+use Rattle.device.specs.Words.{waiting, Word, NvmAct, Store, Flush, Fence, nvmRules}
 use Rattle.crash.specs.Runs.{eachOf, Each}
 use Rattle.crash.specs.Acts.{Spares}
 use Rattle.crash.specs.Keeping.{nvmKeeps, kept}
@@ -65,10 +65,10 @@ spares-unstored S [] h = tt
 spares-unstored S (Store x v ∷ acts) h = (here, spares-unstored S acts (λ w e. or-parts (eqb w x) (storesWord w acts) (h w e) .1))
   where
     here : (w : ℕ) → S w ≡ true → (p : ℕ) → nvmRules .makes (Store x v) w (settled p) ≡ settled p
-    here w e p = let z : eqb w x ≡ false = or-parts (eqb w x) (storesWord w acts) (h w e) .0 in ap (λ b. cond b _ (settled p)) z
+    here w e p = let z : eqb w x ≡ false = or-parts (eqb w x) (storesWord w acts) (h w e) .0 in ap (λ b. cond b (unsettled waiting p v) (settled p)) z
 spares-unstored S (Flush l ∷ acts) h = ((λ w e p. calm (eqb (w / 8) l) p), spares-unstored S acts h)
   where
-    calm : (b : Bool) (p : ℕ) → cond b (settled p) (settled p) ≡ settled p
+    calm : (b : Bool) (p : ℕ) → cond {A = Word} b (settled p) (settled p) ≡ settled p
     calm true p = refl
     calm false p = refl
 spares-unstored S (Fence ∷ acts) h = ((λ w e p. refl), spares-unstored S acts h)
