@@ -155,7 +155,7 @@ module _ (N : ℕ) (t : Transaction) (c : Contents) (lt : tailOf c < N) (few : l
           let long = units-of-long t in
           let less : i < length (unitsOf t) = omega arith in
           sym (unit-is committed (after N (tailOf c) i + 1) (getD (unitsOf t) i []) (whole i less)
-            (λ j l. sym (high (32 * (after N (tailOf c) i + 1) + j) (omega arith) ∙ filled-word N (tailOf c) (unitsOf t) c lt few i j less l)))
+          (λ j l. sym (high (32 * (after N (tailOf c) i + 1) + j) (omega arith) ∙ filled-word N (tailOf c) (unitsOf t) c lt few i j less l)))
 
       others-stay : (p : ℕ) → p < N → ((i : ℕ) → i < taken (length t) → p ≡ after N (tailOf c) i → ⊥) → placeAt committed p ≡ placeAt c p
       others-stay p k none = go (cases-lt (ahead N (tailOf c) p) (length (unitsOf t)))

@@ -18,7 +18,6 @@ use Rattle.crash.specs.Acts.{Rests, Leads, Accepts, Spares, Calmer, made}
 use Rattle.crash.specs.Keeping.{nvmKeeps, kept, Phase}
 use Rattle.crash.specs.Rows.{sealing, storesWord, flushesLine, Flushes}
 use Rattle.crash.specs.Pair.{Pair, Act, onNvm, PerformedPair, CutPair, PairRestarted, PairRests, PairAccepts, nvmPart, diskPart}
-use Rattle.crash.specs.Phases.{Nvm-phase-settles, Sealing-both-is-atomic}
 use Rattle.crash.proofs.Tame.{nvm-is-tame}
 use Rattle.crash.proofs.Steps.{restart-settles}
 use Rattle.crash.proofs.Follow.{kept-append, leads-append, accepts-append, accepts-calmer, accepts-settled, run-size, begun-size}
@@ -26,6 +25,7 @@ use Rattle.crash.proofs.Rows.{stores-append}
 use Rattle.crash.proofs.Joins.{nvm-spares}
 use Rattle.crash.proofs.Phases.{made-kept, stores-are-a-phase, sealing-is-a-phase}
 use Rattle.crash.proofs.Pairs.{nvm-own, disk-none, runs-part, cuts-part}
+use Rattle.crash.proofs.PairPhases.{nvm-phase-settles, sealing-both-is-atomic}
 use Rattle.ringlaws.specs.Layout.{Contents, headOf, tailOf, groundWord, placesWord, blocksWord, headWord, tailWord, placeAt, after, used, recordsOf}
 use Rattle.ringlaws.specs.TxnInfo.{Transaction, numbersOf, recordUnits, infoUnit, countLimit, taken}
 use Rattle.ringlaws.specs.Spells.{unitsOf, Whole, Fair, Spells}
@@ -150,8 +150,8 @@ module _ (N B : ℕ) (c : Contents) (e : ℕ → List ℕ) (ts : List Transactio
   accepted =
       accepts-append nvmRules (preparing N c t) (sealing tailWord (after N (tailOf c) (taken (length t)))) (N + 1) (λ w. settled (c w)) (placed .accepted)
       (accepts-calmer nvmRules nvmKeeps nvm-is-tame (N + 1) (λ w. settled (middle w)) (λ w. made nvmRules (preparing N c t) w (settled (c w)))
-        (sealing tailWord (after N (tailOf c) (taken (length t))))
-        (λ w. subst (Calmer (settled (middle w))) (sym (prepares w)) refl) (seals .accepted))
+      (sealing tailWord (after N (tailOf c) (taken (length t))))
+      (λ w. subst (Calmer (settled (middle w))) (sym (prepares w)) refl) (seals .accepted))
 
   -- what the whole run leaves in a word
   left : (w : ℕ) → kept nvmKeeps (committing N c t) w (c w) ≡ new w
@@ -166,10 +166,10 @@ module _ (N B : ℕ) (c : Contents) (e : ℕ → List ℕ) (ts : List Transactio
       let f = few in
       nvm-spares others (preparing N c t)
       (λ w h.
-        stores-append w (placing N (tailOf c) (unitsOf t)) (flushingPlaces N (tailOf c) (taken (length t)) ++ Fence ∷ [])
-        ∙ ap (λ b. b || storesWord w (flushingPlaces N (tailOf c) (taken (length t)) ++ Fence ∷ []))
-          (places-stored N (tailOf c) tail (unitsOf t) whole (length (unitsOf t)) (omega arith) (omega arith) w ∙ not-true (inPlaces N (tailOf c) (length (unitsOf t)) w) h)
-        ∙ flushes-store-none (N + 1) (flushingPlaces N (tailOf c) (taken (length t))) (flushes-within N (tailOf c) tail (taken (length t))) w)
+      stores-append w (placing N (tailOf c) (unitsOf t)) (flushingPlaces N (tailOf c) (taken (length t)) ++ Fence ∷ [])
+      ∙ ap (λ b. b || storesWord w (flushingPlaces N (tailOf c) (taken (length t)) ++ Fence ∷ []))
+      (places-stored N (tailOf c) tail (unitsOf t) whole (length (unitsOf t)) (omega arith) (omega arith) w ∙ not-true (inPlaces N (tailOf c) (length (unitsOf t)) w) h)
+      ∙ flushes-store-none (N + 1) (flushingPlaces N (tailOf c) (taken (length t))) (flushes-within N (tailOf c) tail (taken (length t))) w)
 
   -- The new contents hold the new table.
   holds-new : Holds N B new e (ts ++ t ∷ []) (lay t units)
@@ -232,35 +232,37 @@ module _ (N B : ℕ) (c : Contents) (e : ℕ → List ℕ) (ts : List Transactio
     holds = holds-old x same;
   }
 
-  module _ (settles : Nvm-phase-settles) (atomic : Sealing-both-is-atomic) where
-    acts : commitActs N c t ≡ map onNvm (committing N c t)
-    acts = acts-are N c t (fair .least)
+  acts : commitActs N c t ≡ map onNvm (committing N c t)
+  acts = acts-are N c t (fair .least)
 
-    pub commit-comes-to : CommitComesTo N B c ts units t m
-    commit-comes-to = record { accepts = accepts; whole = performed; cut = cut }
-      where
-        accepts : PairAccepts m (commitActs N c t)
-        accepts = subst (PairAccepts m) (sym acts) record {
-          nvm = subst (Accepts nvmRules (m .nvm .size) (m .nvm .piece)) (sym (nvm-own (committing N c t)))
-              (accepts-settled nvmRules nvmKeeps nvm-is-tame c (m .nvm) (committing N c t) (ready .rests .nvm)
-                (subst (λ u. Accepts nvmRules u (λ w. settled (c w)) (committing N c t)) (sym (ready .units)) accepted));
-          disk = subst (Accepts diskRules (m .disk .size) (m .disk .piece)) (sym (disk-none (committing N c t))) tt;
-        }
+  pub commit-comes-to : CommitComesTo N B c ts units t m
+  commit-comes-to = record { accepts = accepts; whole = performed; cut = cut }
+    where
+      accepts : PairAccepts m (commitActs N c t)
+      accepts = subst (PairAccepts m) (sym acts) record {
+        nvm = subst (Accepts nvmRules (m .nvm .size) (m .nvm .piece)) (sym (nvm-own (committing N c t)))
+            (accepts-settled nvmRules nvmKeeps nvm-is-tame c (m .nvm) (committing N c t) (ready .rests .nvm)
+            (subst (λ u. Accepts nvmRules u (λ w. settled (c w)) (committing N c t)) (sym (ready .units)) accepted));
+        disk = subst (Accepts diskRules (m .disk .size) (m .disk .piece)) (sym (disk-none (committing N c t))) tt;
+      }
 
-        performed : (n : Pair) → PerformedPair m (commitActs N c t) n → Keeps N B n (ts ++ t ∷ []) (lay t units)
-        performed n ran =
-            let (x, y) = runs-part (commitActs N c t) m n ran in
-            keeps-new n (run-size nvmRules x ∙ ready .units) (run-size diskRules y ∙ ready .blocks)
-            (settles c new e (committing N c t) m n (ready .rests) leads (subst (λ (a : List Act). PerformedPair m a n) acts ran))
+      performed : (n : Pair) → PerformedPair m (commitActs N c t) n → Keeps N B n (ts ++ t ∷ []) (lay t units)
+      performed n ran =
+          let (x, y) = runs-part (commitActs N c t) m n ran in
+          keeps-new n (run-size nvmRules x ∙ ready .units) (run-size diskRules y ∙ ready .blocks)
+          (nvm-phase-settles c new e (committing N c t) m n (ready .rests) leads (subst (λ (a : List Act). PerformedPair m a n) acts ran))
 
-        cut : (n p : Pair) → CutPair m (commitActs N c t) n → PairRestarted n p → Keeps N B p ts units ⊎ Keeps N B p (ts ++ t ∷ []) (lay t units)
-        cut n p c1 again =
-            let (dark, x, y) = cuts-part (commitActs N c t) m n c1 in
-            let size : p .nvm .size ≡ N + 1 = again .nvm .size ∙ begun-size nvmRules x ∙ ready .units in
-            let blocks : p .disk .size ≡ B = again .disk .size ∙ begun-size diskRules y ∙ ready .blocks in
-            let (disk, words) = atomic c middle e (preparing N c t) tailWord (after N (tailOf c) (taken (length t))) others m n p (ready .rests) prepares spares
-                (ap not (low-out N (tailOf c) (length (unitsOf t)) tailWord (omega arith))) (subst (λ (a : List Act). CutPair m a n) acts c1) again in
-            elim words [
-              | inl old ↦ inl (keeps-old p size blocks (wordsOf (p .nvm)) record { nvm = restart-settles _ _ (n .nvm) (p .nvm) (again .nvm); disk = disk } (λ w h. ap presentValue (old w h)))
-              | inr all ↦ inr (keeps-new p size blocks record { nvm = λ w. all w ∙ ap settled (left w); disk = disk })
-            ]
+      cut : (n p : Pair) → CutPair m (commitActs N c t) n → PairRestarted n p → Keeps N B p ts units ⊎ Keeps N B p (ts ++ t ∷ []) (lay t units)
+      cut n p c1 again =
+          let (dark, x, y) = cuts-part (commitActs N c t) m n c1 in
+          let size : p .nvm .size ≡ N + 1 = again .nvm .size ∙ begun-size nvmRules x ∙ ready .units in
+          let blocks : p .disk .size ≡ B = again .disk .size ∙ begun-size diskRules y ∙ ready .blocks in
+          let (disk, words) = sealing-both-is-atomic c middle e (preparing N c t) tailWord (after N (tailOf c) (taken (length t))) others m n p (ready .rests) prepares spares
+          (ap not (low-out N (tailOf c) (length (unitsOf t)) tailWord (omega arith))) (subst (λ (a : List Act). CutPair m a n) acts c1) again in
+          elim words [
+            | inl old ↦ inl (keeps-old p size blocks (wordsOf (p .nvm)) record { nvm = restart-settles _ _ (n .nvm) (p .nvm) (again .nvm); disk = disk } (λ w h. ap presentValue (old w h)))
+            | inr all ↦ inr (keeps-new p size blocks record { nvm = λ w. all w ∙ ap settled (left w); disk = disk })
+          ]
+
+pub commits-are-atomic : Commits-are-atomic
+commits-are-atomic = commit-comes-to

@@ -1,2 +1,3 @@
 pub mod CommitPlaces
 pub mod CommitActs
+pub mod Commits
