@@ -1,19 +1,19 @@
 -- The places that a commit fills, word by word, and the contents with them filled. Assumes nothing.
 use mathlib.Core.Path.{_≡_, refl, sym, ap, subst, _∙_}
-use mathlib.Core.Bool.{Bool, true, false, cond, _&&_, _||_}
-use mathlib.Core.List.{List, [], _∷_, _++_, map}
+use mathlib.Core.Bool.{Bool, true, false, cond, _&&_}
+use mathlib.Core.List.{List, []}
 use mathlib.Core.Logic.{_⊎_, inl, inr}
-use Prim.Native.Nat.{ℕ, zero, suc, _+_, _-_, _*_, _/_, _%_, _<_, _≤_}
+use Prim.Native.Nat.{ℕ, suc, _+_, _-_, _*_, _/_, _%_, _<_, _≤_}
 use lib.Dec.{eqb, leb, ltb}
 use lib.ListN.{length, getD}
 use native.Mathlib.Omega.{arith}
 use native.Mathlib.Nat.{mod-lt}
 use Rattle.std.proofs.shelf.Ways.{tells}
 use Rattle.std.proofs.shelf.Tests.{cases-lt, ne-eqb}
-use Rattle.ringlaws.specs.Layout.{Contents, headOf, tailOf, tailWord, placeAt, after, usedBetween}
+use Rattle.ringlaws.specs.Layout.{Contents, tailOf, tailWord, placeAt, after, usedBetween}
 use Rattle.ringlaws.specs.TxnInfo.{Transaction, taken}
 use Rattle.ringlaws.specs.Spells.{unitsOf}
-use Rattle.ringlaws.specs.Appends.{Appended}
+use Rattle.ringlaws.specs.Appends.{tailAfter, Appended}
 use Rattle.ringlaws.proofs.Places.{wrap, after-below, used-more, used-none, tail-is}
 use Rattle.ringlaws.proofs.Units.{unit-is, unit-same, units-of-long}
 
@@ -129,43 +129,38 @@ module _ (N t : ℕ) (us : List (List ℕ)) (c : Contents) where
       ∙ ap (λ z. getD (getD us z []) ((32 * (after N t i + 1) + j) % 32) 0) o
       ∙ ap (λ z. getD (getD us i []) z 0) m
 
--- the word x given the value v
-abbrev pub with-word : ℕ → ℕ → Contents → Contents
-with-word x v c w = cond (eqb w x) v (c w)
+-- the contents that a commit comes to: the places filled, the tail moved
+abbrev pub committed : ℕ → Transaction → Contents → Contents
+committed N t c w = cond (eqb w tailWord) (tailAfter N c t) (filled N (tailOf c) (unitsOf t) c w)
 
 module _ (N : ℕ) (t : Transaction) (c : Contents) (lt : tailOf c < N) (few : length (unitsOf t) < N)
     (whole : (k : ℕ) → k < length (unitsOf t) → length (getD (unitsOf t) k []) ≡ 32) where
-  -- the contents that a commit comes to
-  abbrev pub committed : Contents
-  committed = with-word tailWord (after N (tailOf c) (taken (length t))) (filled N (tailOf c) (unitsOf t) c)
+  not-tail : (w : ℕ) → (w ≡ tailWord → ⊥) → committed N t c w ≡ filled N (tailOf c) (unitsOf t) c w
+  not-tail w ne = ap (λ b. cond b (tailAfter N c t) (filled N (tailOf c) (unitsOf t) c w)) (ne-eqb w tailWord ne)
 
-  high : (w : ℕ) → 32 ≤ w → committed w ≡ filled N (tailOf c) (unitsOf t) c w
-  high w k = ap (λ b. cond b (after N (tailOf c) (taken (length t))) (filled N (tailOf c) (unitsOf t) c w)) (ne-eqb w tailWord (λ e. omega arith))
+  outside : (w : ℕ) → (w ≡ tailWord → ⊥) → inPlaces N (tailOf c) (length (unitsOf t)) w ≡ false → committed N t c w ≡ c w
+  outside w ne out = not-tail w ne ∙ filled-out N (tailOf c) (unitsOf t) c w out
 
-  pub committed-appends : Appended N t c committed
-  committed-appends = record { tail = refl; unitZero = zero-stays; units = units-there; others = others-stay; beyond = beyond-stays }
+  pub committed-appends : Appended N t c (committed N t c)
+  committed-appends = record {
+    tail = refl;
+    unitZero = λ w k ne. outside w ne (low-out N (tailOf c) (length (unitsOf t)) w k);
+    units = units-there;
+    others = λ p k none. other-place p k none (cases-lt (ahead N (tailOf c) p) (length (unitsOf t)));
+    beyond = λ w k. outside w (λ e. omega arith) (beyond-out N (tailOf c) (length (unitsOf t)) w k);
+  }
     where
-      zero-stays : (w : ℕ) → w < 32 → (w ≡ tailWord → ⊥) → committed w ≡ c w
-      zero-stays w k ne =
-          ap (λ b. cond b (after N (tailOf c) (taken (length t))) (filled N (tailOf c) (unitsOf t) c w)) (ne-eqb w tailWord ne)
-          ∙ filled-out N (tailOf c) (unitsOf t) c w (low-out N (tailOf c) (length (unitsOf t)) w k)
-
-      units-there : (i : ℕ) → i < taken (length t) → placeAt committed (after N (tailOf c) i) ≡ getD (unitsOf t) i []
+      units-there : (i : ℕ) → i < taken (length t) → placeAt (committed N t c) (after N (tailOf c) i) ≡ getD (unitsOf t) i []
       units-there i k =
           let long = units-of-long t in
           let less : i < length (unitsOf t) = omega arith in
-          sym (unit-is committed (after N (tailOf c) i + 1) (getD (unitsOf t) i []) (whole i less)
-          (λ j l. sym (high (32 * (after N (tailOf c) i + 1) + j) (omega arith) ∙ filled-word N (tailOf c) (unitsOf t) c lt few i j less l)))
+          sym (unit-is (committed N t c) (after N (tailOf c) i + 1) (getD (unitsOf t) i []) (whole i less)
+          (λ j l. sym (not-tail (32 * (after N (tailOf c) i + 1) + j) (λ e. omega arith) ∙ filled-word N (tailOf c) (unitsOf t) c lt few i j less l)))
 
-      others-stay : (p : ℕ) → p < N → ((i : ℕ) → i < taken (length t) → p ≡ after N (tailOf c) i → ⊥) → placeAt committed p ≡ placeAt c p
-      others-stay p k none = go (cases-lt (ahead N (tailOf c) p) (length (unitsOf t)))
-        where
-          go : (ahead N (tailOf c) p < length (unitsOf t)) ⊎ (length (unitsOf t) ≤ ahead N (tailOf c) p) → placeAt committed p ≡ placeAt c p
-          go (inl s) =
-              let long = units-of-long t in
-              absurd (none (ahead N (tailOf c) p) (omega arith) (sym (tail-is N (tailOf c) p lt k)))
-          go (inr far) = unit-same c committed (p + 1)
-              (λ j l. high (32 * (p + 1) + j) (omega arith) ∙ filled-out N (tailOf c) (unitsOf t) c (32 * (p + 1) + j) (far-out N (tailOf c) (length (unitsOf t)) p j l far))
-
-      beyond-stays : (w : ℕ) → 32 * (N + 1) ≤ w → committed w ≡ c w
-      beyond-stays w k = high w (omega arith) ∙ filled-out N (tailOf c) (unitsOf t) c w (beyond-out N (tailOf c) (length (unitsOf t)) w k)
+      other-place : (p : ℕ) → p < N → ((i : ℕ) → i < taken (length t) → p ≡ after N (tailOf c) i → ⊥)
+          → (ahead N (tailOf c) p < length (unitsOf t)) ⊎ (length (unitsOf t) ≤ ahead N (tailOf c) p) → placeAt (committed N t c) p ≡ placeAt c p
+      other-place p k none (inl near) =
+          let long = units-of-long t in
+          absurd (none (ahead N (tailOf c) p) (omega arith) (sym (tail-is N (tailOf c) p lt k)))
+      other-place p k none (inr far) = unit-same c (committed N t c) (p + 1)
+          (λ j l. outside (32 * (p + 1) + j) (λ e. omega arith) (far-out N (tailOf c) (length (unitsOf t)) p j l far))
