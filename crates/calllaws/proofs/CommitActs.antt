@@ -11,10 +11,11 @@ use Rattle.std.proofs.shelf.Tests.{eqb-true, both-ways}
 use Rattle.device.specs.Words.{NvmAct}
 use Rattle.crash.specs.Runs.{eachOf}
 use Rattle.crash.specs.Keeping.{nvmKeeps, kept}
-use Rattle.crash.specs.Rows.{storing, flushing, inside, storesWord, flushesLine, Stores, Flushes}
+use Rattle.crash.specs.Rows.{storing, flushing, inside, nvmTouches, nvmFlushes, storesWord, flushesLine, FlushWithin, Stores, Flushes}
 use Rattle.crash.proofs.Follow.{kept-append}
-use Rattle.crash.proofs.Rows.{stores-append, flushes-append, stores-word, stores-kept, flushing-line}
-use Rattle.crash.proofs.Joins.{stores-join, stores-row, flushes-each, flushing-row}
+use Rattle.crash.proofs.Runs.{each-each}
+use Rattle.crash.proofs.Touching.{some-append}
+use Rattle.crash.proofs.Rows.{stores-join, storing-word, storing-kept, storing-row, flushing-line, flushing-row}
 use Rattle.ringlaws.specs.Layout.{after}
 use Rattle.ringlaws.proofs.Places.{after-below}
 use Rattle.calls.specs.Acts.{flushingPlaces}
@@ -39,7 +40,7 @@ module _ (N t : ℕ) (lt : t < N) where
   unfolding eachOf
   places-flushed zero le w = sym (none-placed N t w)
   places-flushed (suc n) le w =
-      flushes-append (w / 8) (flushingPlaces N t n) (flushing (4 * (after N t n + 1)) 4)
+      some-append (λ a. nvmFlushes a (w / 8)) (flushingPlaces N t n) (flushing (4 * (after N t n + 1)) 4)
       ∙ ap (λ b. flushesLine (w / 8) (flushingPlaces N t n) || b) (flushing-line (4 * (after N t n + 1)) 4 (w / 8) ∙ place-lines (after N t n) w)
       ∙ ap (λ b. b || isThere N t lt n w) (places-flushed n (omega arith) w)
       ∙ swapped (isThere N t lt n w) (inPlaces N t n w)
@@ -47,8 +48,8 @@ module _ (N t : ℕ) (lt : t < N) where
 
   pub flushes-within : (n : ℕ) → Flushes (N + 1) (flushingPlaces N t n)
   flushes-within n =
-      flushes-each (N + 1) (λ k. flushing (4 * (after N t k + 1)) 4) n
-      (λ k l. let q : after N t k < N = after-below N t k lt in flushing-row (N + 1) (4 * (after N t k + 1)) 4 (omega arith))
+      each-each (FlushWithin (N + 1)) (λ k. flushing (4 * (after N t k + 1)) 4) n
+      (λ k l. let q : after N t k < N = after-below N t k lt in flushing-row (4 * (after N t k + 1)) (N + 1) 4 (omega arith))
 
   module _ (us : List (List ℕ)) (whole : (k : ℕ) → k < length us → length (getD us k []) ≡ 32) where
     -- the stores of the first n units
@@ -57,7 +58,7 @@ module _ (N t : ℕ) (lt : t < N) where
 
     unit-stored : (n w : ℕ) → n < length us → storesWord w (storing (32 * (after N t n + 1)) (getD us n [])) ≡ isThere N t lt n w
     unit-stored n w k =
-        stores-word (32 * (after N t n + 1)) (λ i. getD (getD us n []) i 0) (length (getD us n [])) w
+        storing-word (32 * (after N t n + 1)) (getD us n []) w
         ∙ ap (λ z. inside (32 * (after N t n + 1)) (32 * (after N t n + 1) + z) w) (whole n k)
         ∙ place-words (after N t n) w
 
@@ -65,7 +66,7 @@ module _ (N t : ℕ) (lt : t < N) where
     unfolding eachOf
     places-stored zero le few w = sym (none-placed N t w)
     places-stored (suc n) le few w =
-        stores-append w (placingFirst n) (storing (32 * (after N t n + 1)) (getD us n []))
+        some-append (λ a. nvmTouches a w) (placingFirst n) (storing (32 * (after N t n + 1)) (getD us n []))
         ∙ ap (λ b. storesWord w (placingFirst n) || b) (unit-stored n w (omega arith))
         ∙ ap (λ b. b || isThere N t lt n w) (places-stored n (omega arith) (omega arith) w)
         ∙ swapped (isThere N t lt n w) (inPlaces N t n w)
@@ -73,12 +74,12 @@ module _ (N t : ℕ) (lt : t < N) where
 
     pub stores-within : (n : ℕ) → n ≤ N → n ≤ length us → Stores (N + 1) (placingFirst n)
     unfolding eachOf
-    stores-within zero le few = tt
+    stores-within zero le few = (tt, tt)
     stores-within (suc n) le few =
         let q : after N t n < N = after-below N t n lt in
         let e : length (getD us n []) ≡ 32 = whole n (omega arith) in
         stores-join (N + 1) (placingFirst n) (storing (32 * (after N t n + 1)) (getD us n [])) (stores-within n (omega arith) (omega arith))
-        (stores-row (N + 1) (32 * (after N t n + 1)) (λ i. getD (getD us n []) i 0) (length (getD us n [])) (omega arith))
+        (storing-row (32 * (after N t n + 1)) (getD us n []) (N + 1) (omega arith))
         (λ w i. unit-stored n w (omega arith) ∙ apart w (isThere N t lt n w) refl (sym (places-stored n (omega arith) (omega arith) w) ∙ i))
       where
         -- a word of the places so far is none of the next place
@@ -91,7 +92,7 @@ module _ (N t : ℕ) (lt : t < N) where
     places-kept zero le few w p = sym (ap (λ b. cond b (wordFor N t us w) p) (none-placed N t w))
     places-kept (suc n) le few w p =
         kept-append nvmKeeps (placingFirst n) (storing (32 * (after N t n + 1)) (getD us n [])) w p
-        ∙ stores-kept (32 * (after N t n + 1)) (λ i. getD (getD us n []) i 0) (length (getD us n [])) w (kept nvmKeeps (placingFirst n) w p)
+        ∙ storing-kept (32 * (after N t n + 1)) (getD us n []) w (kept nvmKeeps (placingFirst n) w p)
         ∙ ap (λ b. cond b (getD (getD us n []) (w - 32 * (after N t n + 1)) 0) (kept nvmKeeps (placingFirst n) w p)) here
         ∙ ap (λ r. cond (isThere N t lt n w) (getD (getD us n []) (w - 32 * (after N t n + 1)) 0) r) (places-kept n (omega arith) (omega arith) w p)
         ∙ joined (isThere N t lt n w) (inPlaces N t n w) same

@@ -11,12 +11,12 @@ use Rattle.device.specs.Pieces.{settled, presentValue}
 use Rattle.device.specs.Words.{NvmAct, Store, Flush, Fence, nvmRules}
 use Rattle.crash.specs.Acts.{Leads, Accepts, Spares, Calmer, made}
 use Rattle.crash.specs.Keeping.{nvmKeeps, kept, Phase}
-use Rattle.crash.specs.Rows.{sealing, storesWord, flushesLine, Flushes}
+use Rattle.crash.specs.Rows.{sealing, nvmTouches, storesWord, flushesLine, Flushes}
 use Rattle.crash.specs.Pair.{onNvm}
 use Rattle.crash.proofs.Tame.{nvm-is-tame}
 use Rattle.crash.proofs.Follow.{leads-append, accepts-append, accepts-calmer}
-use Rattle.crash.proofs.Rows.{stores-append}
-use Rattle.crash.proofs.Joins.{nvm-spares}
+use Rattle.crash.proofs.Touching.{some-append}
+use Rattle.crash.proofs.Rows.{unstored-spared}
 use Rattle.crash.proofs.Phases.{made-kept, stores-are-a-phase, sealing-is-a-phase}
 use Rattle.ringlaws.specs.Layout.{Contents, tailOf, tailWord}
 use Rattle.ringlaws.specs.TxnInfo.{Transaction, taken}
@@ -54,9 +54,9 @@ others N c t w = not (inPlaces N (tailOf c) (length (unitsOf t)) w)
 -- flushes and a fence store nothing
 flushes-store-none : (u : ℕ) (acts : List NvmAct) → Flushes u acts → (w : ℕ) → storesWord w (acts ++ Fence ∷ []) ≡ false
 flushes-store-none u [] h w = refl
-flushes-store-none u (Store x v ∷ more) h w = absurd h
+flushes-store-none u (Store x v ∷ more) (never, h) w = absurd never
 flushes-store-none u (Flush l ∷ more) (lt, h) w = flushes-store-none u more h w
-flushes-store-none u (Fence ∷ more) h w = absurd h
+flushes-store-none u (Fence ∷ more) (never, h) w = absurd never
 
 module _ (N : ℕ) (c : Contents) (t : Transaction) (lt : tailOf c < N) (few : length (unitsOf t) < N)
     (whole : (k : ℕ) → k < length (unitsOf t) → length (getD (unitsOf t) k []) ≡ 32) where
@@ -83,11 +83,11 @@ module _ (N : ℕ) (c : Contents) (t : Transaction) (lt : tailOf c < N) (few : l
 
   -- and touches nothing else
   pub spares : Spares nvmRules (others N c t) (preparing N c t)
-  spares = nvm-spares (others N c t) (preparing N c t) unstored
+  spares = unstored-spared (others N c t) (preparing N c t) unstored
     where
       unstored : (w : ℕ) → others N c t w ≡ true → storesWord w (preparing N c t) ≡ false
       unstored w h =
-          stores-append w (stores N c t) (flushes N c t ++ Fence ∷ [])
+          some-append (λ a. nvmTouches a w) (stores N c t) (flushes N c t ++ Fence ∷ [])
           ∙ ap (λ b. b || storesWord w (flushes N c t ++ Fence ∷ [])) (stored w ∙ not-true (inPlaces N (tailOf c) (length (unitsOf t)) w) h)
           ∙ flushes-store-none (N + 1) (flushes N c t) (flushes-within N (tailOf c) lt (taken (length t))) w
 
