@@ -31,12 +31,12 @@ unfolding put member
 put-again [] r u h = absurd (both-ways false refl h)
 put-again (s ∷ t) r u h =
     elim (cases-bool (eqb r (s .number))) [
-      inl e ↦
-        ap numbersOf (cond-true (eqb r (s .number)) (record { number = r; unit = u } ∷ t) (s ∷ put t r u) e)
-        ∙ ap (λ (n : ℕ). n ∷ numbersOf t) (eqb-true r (s .number) e)
-    | inr e ↦
-        ap numbersOf (cond-false (eqb r (s .number)) (record { number = r; unit = u } ∷ t) (s ∷ put t r u) e)
-        ∙ ap (λ (ns : List ℕ). s .number ∷ ns) (put-again t r u (subst (λ (b : Bool). b || member r (numbersOf t) ≡ true) e h))
+      | inl e ↦
+          ap numbersOf (cond-true (eqb r (s .number)) (record { number = r; unit = u } ∷ t) (s ∷ put t r u) e)
+          ∙ ap (λ (n : ℕ). n ∷ numbersOf t) (eqb-true r (s .number) e)
+      | inr e ↦
+          ap numbersOf (cond-false (eqb r (s .number)) (record { number = r; unit = u } ∷ t) (s ∷ put t r u) e)
+          ∙ ap (λ (ns : List ℕ). s .number ∷ ns) (put-again t r u (subst (λ (b : Bool). b || member r (numbersOf t) ≡ true) e h))
     ]
 
 put-new : (t : Transaction) (r : ℕ) (u : List ℕ) → member r (numbersOf t) ≡ false → numbersOf (put t r u) ≡ numbersOf t ++ r ∷ []
@@ -44,10 +44,10 @@ unfolding put member
 put-new [] r u h = refl
 put-new (s ∷ t) r u h =
     elim (cases-bool (eqb r (s .number))) [
-      inl e ↦ absurd (both-ways (eqb r (s .number)) (or-parts (eqb r (s .number)) (member r (numbersOf t)) h .0) e)
-    | inr e ↦
-        ap numbersOf (cond-false (eqb r (s .number)) (record { number = r; unit = u } ∷ t) (s ∷ put t r u) e)
-        ∙ ap (λ (ns : List ℕ). s .number ∷ ns) (put-new t r u (subst (λ (b : Bool). b || member r (numbersOf t) ≡ false) e h))
+      | inl e ↦ absurd (both-ways (eqb r (s .number)) (or-parts (eqb r (s .number)) (member r (numbersOf t)) h .0) e)
+      | inr e ↦
+          ap numbersOf (cond-false (eqb r (s .number)) (record { number = r; unit = u } ∷ t) (s ∷ put t r u) e)
+          ∙ ap (λ (ns : List ℕ). s .number ∷ ns) (put-new t r u (subst (λ (b : Bool). b || member r (numbersOf t) ≡ false) e h))
     ]
 
 below-snoc : (limit : ℕ) (ns : List ℕ) (r : ℕ) → allBelow limit ns ≡ true → ltb r limit ≡ true → allBelow limit (ns ++ r ∷ []) ≡ true
@@ -67,8 +67,8 @@ member-snoc x (n ∷ ns) r h k =
 apart : (x r : ℕ) (ns : List ℕ) → eqb r x || member r ns ≡ false → eqb x r ≡ false
 apart x r ns h =
     elim (cases-bool (eqb x r)) [
-      inl e ↦ absurd (both-ways (eqb r x) (or-parts (eqb r x) (member r ns) h .0) (eq-eqb r x (sym (eqb-true x r e))))
-    | inr e ↦ e
+      | inl e ↦ absurd (both-ways (eqb r x) (or-parts (eqb r x) (member r ns) h .0) (eq-eqb r x (sym (eqb-true x r e))))
+      | inr e ↦ e
     ]
 
 distinct-snoc : (ns : List ℕ) (r : ℕ) → distinct ns ≡ true → member r ns ≡ false → distinct (ns ++ r ∷ []) ≡ true
@@ -104,10 +104,10 @@ unfolding put
 put-readable kind [] r u h k = (k, tt)
 put-readable kind (s ∷ t) r u h k =
     elim (cases-bool (eqb r (s .number))) [
-      inl e ↦ subst (EachReadable kind) (sym (cond-true (eqb r (s .number)) (record { number = r; unit = u } ∷ t) (s ∷ put t r u) e)) (k, h .1)
-    | inr e ↦
-        subst (EachReadable kind) (sym (cond-false (eqb r (s .number)) (record { number = r; unit = u } ∷ t) (s ∷ put t r u) e))
-        (h .0, put-readable kind t r u (h .1) k)
+      | inl e ↦ subst (EachReadable kind) (sym (cond-true (eqb r (s .number)) (record { number = r; unit = u } ∷ t) (s ∷ put t r u) e)) (k, h .1)
+      | inr e ↦
+          subst (EachReadable kind) (sym (cond-false (eqb r (s .number)) (record { number = r; unit = u } ∷ t) (s ∷ put t r u) e))
+          (h .0, put-readable kind t r u (h .1) k)
     ]
 
 -- a setting that is not refused keeps the settings good
@@ -115,26 +115,26 @@ pub put-good : {R : Type 0} (kind : Kind R) (B : ℕ) (t : Transaction) (r : ℕ
     → Good kind B t → ltb r (recordsOf B) ≡ true → mayPut t r ≡ true → Readable kind u → Good kind B (put t r u)
 put-good kind B t r u g inside room read =
     elim (cases-bool (member r (numbersOf t))) [
-      inl old ↦
-        let e : numbersOf (put t r u) ≡ numbersOf t = put-again t r u old in
-        record {
-          most = subst (λ (ns : List ℕ). length ns ≤ countLimit) (sym e) (g .most);
-          below = ap (allBelow (recordsOf B)) e ∙ g .below;
-          apart = ap distinct e ∙ g .apart;
-          readable = put-readable kind t r u (g .readable) read;
-        }
-    | inr new ↦
-        let e : numbersOf (put t r u) ≡ numbersOf t ++ r ∷ [] = put-new t r u new in
-        let few : length t < countLimit = elim (or-cases (member r (numbersOf t)) (ltb (length t) countLimit) room) [
-          inl old ↦ absurd (both-ways (member r (numbersOf t)) new old)
-        | inr lt ↦ ltb-true (length t) countLimit lt
-        ] in
-        record {
-          most = subst (λ (ns : List ℕ). length ns ≤ countLimit) (sym e) (let l = length-append (numbersOf t) (r ∷ []) in let k = length-map t (λ (s : Setting). s .number) in omega arith);
-          below = ap (allBelow (recordsOf B)) e ∙ below-snoc (recordsOf B) (numbersOf t) r (g .below) inside;
-          apart = ap distinct e ∙ distinct-snoc (numbersOf t) r (g .apart) new;
-          readable = put-readable kind t r u (g .readable) read;
-        }
+      | inl old ↦
+          let e : numbersOf (put t r u) ≡ numbersOf t = put-again t r u old in
+          record {
+            most = subst (λ (ns : List ℕ). length ns ≤ countLimit) (sym e) (g .most);
+            below = ap (allBelow (recordsOf B)) e ∙ g .below;
+            apart = ap distinct e ∙ g .apart;
+            readable = put-readable kind t r u (g .readable) read;
+          }
+      | inr new ↦
+          let e : numbersOf (put t r u) ≡ numbersOf t ++ r ∷ [] = put-new t r u new in
+          let few : length t < countLimit = elim (or-cases (member r (numbersOf t)) (ltb (length t) countLimit) room) [
+            | inl old ↦ absurd (both-ways (member r (numbersOf t)) new old)
+            | inr lt ↦ ltb-true (length t) countLimit lt
+          ] in
+          record {
+            most = subst (λ (ns : List ℕ). length ns ≤ countLimit) (sym e) (let l = length-append (numbersOf t) (r ∷ []) in let k = length-map t (λ (s : Setting). s .number) in omega arith);
+            below = ap (allBelow (recordsOf B)) e ∙ below-snoc (recordsOf B) (numbersOf t) r (g .below) inside;
+            apart = ap distinct e ∙ distinct-snoc (numbersOf t) r (g .apart) new;
+            readable = put-readable kind t r u (g .readable) read;
+          }
     ]
 
 module _ {R : Type 0} (kind : Kind R) (lawful : Lawful kind) where
@@ -161,10 +161,10 @@ module _ {R : Type 0} (kind : Kind R) (lawful : Lawful kind) where
   setting-readable [] units r h k = k
   setting-readable (s ∷ t) units r h k =
       elim (cases-bool (eqb r (s .number))) [
-        inl e ↦ subst (λ (o : Option (List ℕ)). Readable kind (valueOr o (units r))) (sym (cond-true (eqb r (s .number)) (Some (s .unit)) (settingOf t r) e)) (h .0)
-      | inr e ↦
-          subst (λ (o : Option (List ℕ)). Readable kind (valueOr o (units r))) (sym (cond-false (eqb r (s .number)) (Some (s .unit)) (settingOf t r) e))
-          (setting-readable t units r (h .1) k)
+        | inl e ↦ subst (λ (o : Option (List ℕ)). Readable kind (valueOr o (units r))) (sym (cond-true (eqb r (s .number)) (Some (s .unit)) (settingOf t r) e)) (h .0)
+        | inr e ↦
+            subst (λ (o : Option (List ℕ)). Readable kind (valueOr o (units r))) (sym (cond-false (eqb r (s .number)) (Some (s .unit)) (settingOf t r) e))
+            (setting-readable t units r (h .1) k)
       ]
 
   -- readable settings laid over readable units are readable

@@ -1,0 +1,4 @@
+pub mod CommitPlaces
+pub mod CommitActs
+pub mod CommitPhases
+pub mod Commits
