@@ -1,8 +1,8 @@
 -- What a ring spells, from the writing side: the used places hold these transactions, one after another. Assumes nothing.
 use mathlib.Core.Path.{_≡_}
+use mathlib.Core.Bool.{true}
 use mathlib.Core.List.{List, [], _∷_, _++_}
 use Prim.Native.Nat.{ℕ, _≤_}
-use lib.Dec.{T}
 use lib.ListN.{length}
 use Rattle.ringlaws.specs.Layout.{Contents, headOf, tailOf, usedBetween, unitsFrom, recordsOf}
 use Rattle.ringlaws.specs.TxnInfo.{Transaction, numbersOf, recordUnits, infoUnit, countLimit, allBelow, distinct}
@@ -25,8 +25,8 @@ Whole (u ∷ us) = (length u ≡ 32) × Whole us
 pub record Fair (B : ℕ) (t : Transaction) : Type 0 where
   pub least : 1 ≤ length t
   pub most : length t ≤ countLimit
-  pub below : T (allBelow (recordsOf B) (numbersOf t))
-  pub apart : T (distinct (numbersOf t))
+  pub below : allBelow (recordsOf B) (numbersOf t) ≡ true
+  pub apart : distinct (numbersOf t) ≡ true
   pub whole : Whole (recordUnits t)
 
 abbrev pub AllFair : ℕ → List Transaction → Type 0
