@@ -2,6 +2,7 @@
 use mathlib.Core.Path.{_≡_, refl, sym, ap, subst, _∙_}
 use mathlib.Core.Bool.{Bool, true, false, cond, _||_}
 use mathlib.Core.List.{List, [], _∷_, _++_}
+use mathlib.Core.Logic.{_⊎_, inl, inr}
 use Prim.Native.Nat.{ℕ, zero, suc, _+_, _*_, _/_, _%_, _<_}
 use lib.Dec.{eqb, leb}
 use native.Mathlib.Omega.{arith}
@@ -12,8 +13,9 @@ use Rattle.device.specs.Devices.{Rules}
 use Rattle.device.specs.Words.{waiting, flushed, Word, NvmAct, Store, Flush, Fence, flushedWord, fencedWord, nvmRules}
 use Rattle.device.specs.Sectors.{waits, Sector, DiskAct, Write, Sync, sectorOf, anyBelow, diskRules}
 use Rattle.crash.specs.Acts.{made, Leads, Accepts}
-use Rattle.crash.specs.Keeping.{Tame, nvmKeeps, diskKeeps, kept}
-use Rattle.crash.specs.Rows.{storesWord, flushesLine, writesBlock, Stores, Flushes, Writes, Stores-are-a-phase, Writes-are-a-phase}
+use Rattle.crash.specs.Keeping.{Tame, nvmKeeps, diskKeeps, kept, Brings, Phase}
+use Rattle.crash.specs.Rows.{storesWord, flushesLine, writesBlock, Stores, Flushes, Writes, sealing, Stores-are-a-phase, Writes-are-a-phase, Sealing-is-a-phase}
+use Rattle.crash.proofs.Runs.{each-append}
 use Rattle.crash.proofs.Follow.{made-append, accepts-append}
 use Rattle.crash.proofs.Tame.{disk-is-tame}
 
@@ -94,12 +96,51 @@ flushes-accepted u piece (Store x v ∷ more) h = absurd h
 flushes-accepted u piece (Flush l ∷ more) (lt, h) = (grind (arith, tells), refl, flushes-accepted u (λ w. nvmRules .makes (Flush l) w (piece w)) more h)
 flushes-accepted u piece (Fence ∷ more) h = absurd h
 
+-- A word that is stored has a value that does not depend on what it held.
+pub stored-kept : (acts : List NvmAct) (w p q : ℕ) → storesWord w acts ≡ true → kept nvmKeeps acts w p ≡ kept nvmKeeps acts w q
+stored-kept [] w p q e = absurd (never (sym e))
+stored-kept (Store x v ∷ more) w p q e = by-test (eqb w x) e (λ h. stored-kept more w p q h)
+  where
+    by-test : (t : Bool) → t || storesWord w more ≡ true → (storesWord w more ≡ true → kept nvmKeeps more w p ≡ kept nvmKeeps more w q)
+        → kept nvmKeeps more w (cond t v p) ≡ kept nvmKeeps more w (cond t v q)
+    by-test true h rest-of = refl
+    by-test false h rest-of = rest-of h
+stored-kept (Flush l ∷ more) w p q e = stored-kept more w p q e
+stored-kept (Fence ∷ more) w p q e = stored-kept more w p q e
+
+-- stores bring nothing but what they leave
+stores-bring : (u : ℕ) (d : ℕ → ℕ) (acts : List NvmAct) → Stores u acts → ((w p : ℕ) → storesWord w acts ≡ true → kept nvmKeeps acts w p ≡ d w) → Brings nvmKeeps d acts
+stores-bring u d [] h ends = tt
+stores-bring u d (Store x v ∷ more) (lt, once, h) ends = (here, stores-bring u d more h later)
+  where
+    here : (w p : ℕ) → (cond (eqb w x) v p ≡ p) ⊎ (cond (eqb w x) v p ≡ d w)
+    here w p = by-test (eqb w x) refl (ends w p)
+      where
+        by-test : (t : Bool) → eqb w x ≡ t → (t || storesWord w more ≡ true → kept nvmKeeps more w (cond t v p) ≡ d w) → (cond t v p ≡ p) ⊎ (cond t v p ≡ d w)
+        by-test true i f = inr (sym (unstored-kept more w v (ap (λ y. storesWord y more) (eqb-true w x i) ∙ once)) ∙ f refl)
+        by-test false i f = inl refl
+
+    later : (w p : ℕ) → storesWord w more ≡ true → kept nvmKeeps more w p ≡ d w
+    later w p e = by-test (eqb w x) refl (ends w p)
+      where
+        by-test : (t : Bool) → eqb w x ≡ t → (t || storesWord w more ≡ true → kept nvmKeeps more w (cond t v p) ≡ d w) → kept nvmKeeps more w p ≡ d w
+        by-test true i f = absurd (never (sym e ∙ ap (λ y. storesWord y more) (eqb-true w x i) ∙ once))
+        by-test false i f = f e
+stores-bring u d (Flush l ∷ more) h ends = absurd h
+stores-bring u d (Fence ∷ more) h ends = absurd h
+
+flushes-bring : (u : ℕ) (d : ℕ → ℕ) (acts : List NvmAct) → Flushes u acts → Brings nvmKeeps d acts
+flushes-bring u d [] h = tt
+flushes-bring u d (Store x v ∷ more) h = absurd h
+flushes-bring u d (Flush l ∷ more) (lt, h) = ((λ w p. inl refl), flushes-bring u d more h)
+flushes-bring u d (Fence ∷ more) h = absurd h
+
 settled-flushed : (t : Bool) (v : ℕ) → fencedWord (cond t (flushedWord (settled v)) (settled v)) ≡ settled v
 settled-flushed true v = refl
 settled-flushed false v = refl
 
 pub stores-are-a-phase : Stores-are-a-phase
-stores-are-a-phase u stores flushes c hs hf covers = (leads, accepted)
+stores-are-a-phase u stores flushes c hs hf covers = record { leads = leads; accepted = accepted; brings = brings }
   where
     by-test : (w : ℕ) (t : Bool) → storesWord w stores ≡ t
         → fencedWord (made nvmRules flushes w (cond t (unsettled waiting (c w) (kept nvmKeeps stores w (c w))) (settled (c w)))) ≡ settled (kept nvmKeeps stores w (c w))
@@ -125,7 +166,64 @@ stores-are-a-phase u stores flushes c hs hf covers = (leads, accepted)
         (stores-accepted u (λ w. settled (c w)) stores hs (λ w e. refl))
         (accepts-append nvmRules flushes (Fence ∷ []) u _ (flushes-accepted u _ flushes hf) (refl, refl, tt))
 
+    brings : Brings nvmKeeps (λ w. kept nvmKeeps stores w (c w)) (stores ++ (flushes ++ Fence ∷ []))
+    brings =
+        each-append _ stores (flushes ++ Fence ∷ [])
+        (stores-bring u _ stores hs (λ w p e. stored-kept stores w p (c w) e))
+        (each-append _ flushes (Fence ∷ []) (flushes-bring u _ flushes hf) ((λ w p. inl refl), tt))
+
+pub sealing-is-a-phase : Sealing-is-a-phase
+sealing-is-a-phase u t v c lt =
+    let once : flushesLine (t / 8) (Flush (t / 8) ∷ []) ≡ true = ap (λ b. b || false) (eq-eqb (t / 8) (t / 8) refl) in
+    stores-are-a-phase u (Store t v ∷ []) (Flush (t / 8) ∷ []) c (lt, refl, tt) (omega arith, tt) covers
+  where
+    covers : (w : ℕ) → eqb w t || false ≡ true → eqb (w / 8) (t / 8) || false ≡ true
+    covers w e = by-test (eqb w t) refl e
+      where
+        by-test : (b : Bool) → eqb w t ≡ b → b || false ≡ true → eqb (w / 8) (t / 8) || false ≡ true
+        by-test true i h = ap (λ b. b || false) (eq-eqb (w / 8) (t / 8) (ap (λ y. y / 8) (eqb-true w t i)))
+        by-test false i h = absurd (never (sym h))
+
 -- the disk
+unwritten-kept : (acts : List DiskAct) (s : ℕ) (p : List ℕ) → writesBlock (s / 8) acts ≡ false → kept diskKeeps acts s p ≡ p
+unwritten-kept [] s p e = refl
+unwritten-kept (Write b words ∷ more) s p e = by-test (eqb (s / 8) b) e (λ h. unwritten-kept more s p h)
+  where
+    by-test : (t : Bool) → t || writesBlock (s / 8) more ≡ false → (writesBlock (s / 8) more ≡ false → kept diskKeeps more s p ≡ p) → kept diskKeeps more s (cond t (sectorOf words (s % 8)) p) ≡ p
+    by-test true h rest-of = absurd (never h)
+    by-test false h rest-of = rest-of h
+unwritten-kept (Sync ∷ more) s p e = unwritten-kept more s p e
+
+pub written-kept : (acts : List DiskAct) (s : ℕ) (p q : List ℕ) → writesBlock (s / 8) acts ≡ true → kept diskKeeps acts s p ≡ kept diskKeeps acts s q
+written-kept [] s p q e = absurd (never (sym e))
+written-kept (Write b words ∷ more) s p q e = by-test (eqb (s / 8) b) e (λ h. written-kept more s p q h)
+  where
+    by-test : (t : Bool) → t || writesBlock (s / 8) more ≡ true → (writesBlock (s / 8) more ≡ true → kept diskKeeps more s p ≡ kept diskKeeps more s q)
+        → kept diskKeeps more s (cond t (sectorOf words (s % 8)) p) ≡ kept diskKeeps more s (cond t (sectorOf words (s % 8)) q)
+    by-test true h rest-of = refl
+    by-test false h rest-of = rest-of h
+written-kept (Sync ∷ more) s p q e = written-kept more s p q e
+
+writes-bring : (u : ℕ) (d : ℕ → List ℕ) (acts : List DiskAct) → Writes u acts → ((s : ℕ) (p : List ℕ) → writesBlock (s / 8) acts ≡ true → kept diskKeeps acts s p ≡ d s) → Brings diskKeeps d acts
+writes-bring u d [] h ends = tt
+writes-bring u d (Write b words ∷ more) (lt, once, h) ends = (here, writes-bring u d more h later)
+  where
+    here : (s : ℕ) (p : List ℕ) → (cond (eqb (s / 8) b) (sectorOf words (s % 8)) p ≡ p) ⊎ (cond (eqb (s / 8) b) (sectorOf words (s % 8)) p ≡ d s)
+    here s p = by-test (eqb (s / 8) b) refl (ends s p)
+      where
+        by-test : (t : Bool) → eqb (s / 8) b ≡ t → (t || writesBlock (s / 8) more ≡ true → kept diskKeeps more s (cond t (sectorOf words (s % 8)) p) ≡ d s)
+            → (cond t (sectorOf words (s % 8)) p ≡ p) ⊎ (cond t (sectorOf words (s % 8)) p ≡ d s)
+        by-test true i f = inr (sym (unwritten-kept more s (sectorOf words (s % 8)) (ap (λ y. writesBlock y more) (eqb-true (s / 8) b i) ∙ once)) ∙ f refl)
+        by-test false i f = inl refl
+
+    later : (s : ℕ) (p : List ℕ) → writesBlock (s / 8) more ≡ true → kept diskKeeps more s p ≡ d s
+    later s p e = by-test (eqb (s / 8) b) refl (ends s p)
+      where
+        by-test : (t : Bool) → eqb (s / 8) b ≡ t → (t || writesBlock (s / 8) more ≡ true → kept diskKeeps more s (cond t (sectorOf words (s % 8)) p) ≡ d s) → kept diskKeeps more s p ≡ d s
+        by-test true i f = absurd (never (sym e ∙ ap (λ y. writesBlock y more) (eqb-true (s / 8) b i) ∙ once))
+        by-test false i f = f e
+writes-bring u d (Sync ∷ more) h ends = absurd h
+
 any-none : (f : ℕ → Bool) (n : ℕ) → ((k : ℕ) → k < n → f k ≡ false) → anyBelow f n ≡ false
 unfolding anyBelow
 any-none f zero h = refl
@@ -148,7 +246,8 @@ writes-accepted u piece (Write b words ∷ more) (lt, once, h) calm = (grind (ar
 writes-accepted u piece (Sync ∷ more) h calm = absurd h
 
 pub writes-are-a-phase : Writes-are-a-phase
-writes-are-a-phase u writes e h = (
-  (λ s. made-append diskRules writes (Sync ∷ []) s (settled (e s)) ∙ ap settled (made-kept diskRules diskKeeps disk-is-tame writes s (settled (e s)))),
-  accepts-append diskRules writes (Sync ∷ []) u (λ s. settled (e s)) (writes-accepted u (λ s. settled (e s)) writes h (λ s i. refl)) (refl, refl, tt),
-)
+writes-are-a-phase u writes e h = record {
+  leads = λ s. made-append diskRules writes (Sync ∷ []) s (settled (e s)) ∙ ap settled (made-kept diskRules diskKeeps disk-is-tame writes s (settled (e s)));
+  accepted = accepts-append diskRules writes (Sync ∷ []) u (λ s. settled (e s)) (writes-accepted u (λ s. settled (e s)) writes h (λ s i. refl)) (refl, refl, tt);
+  brings = each-append _ writes (Sync ∷ []) (writes-bring u _ writes h (λ s p i. written-kept writes s p (e s) i)) ((λ s p. inl refl), tt);
+}

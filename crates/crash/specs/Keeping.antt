@@ -10,7 +10,7 @@ use Rattle.device.specs.Devices.{Rules}
 use Rattle.device.specs.Words.{NvmAct, Store, Flush, Fence, nvmRules}
 use Rattle.device.specs.Sectors.{DiskAct, Write, Sync, sectorOf, diskRules}
 use Rattle.crash.specs.Runs.{Each}
-use Rattle.crash.specs.Acts.{Calmer}
+use Rattle.crash.specs.Acts.{Calmer, Leads, Accepts}
 
 -- the present value of the word w after an act, from what it was: a store of that word moves it, and nothing else does
 abbrev pub nvmKeeps : NvmAct → ℕ → ℕ → ℕ
@@ -35,6 +35,13 @@ Brings keeps d = Each (λ a. (i : ℕ) (p : _) → (keeps a i p ≡ p) ⊎ (keep
 -- the acts move no present value
 abbrev pub Quiet : {Act Value : Type 0} → (Act → ℕ → Value → Value) → List Act → Type 0
 Quiet keeps = Each (λ a. (i : ℕ) (p : _) → keeps a i p ≡ p)
+
+-- A phase of a device of size u from settled contents c to settled contents d: performed whole it leads from c to d; a device
+-- settled at c can refuse none of its acts but for darkness; and on the way it brings no value but d's.
+pub record Phase {Act Mark Value : Type 0} (rules : Rules Act Mark Value) (keeps : Act → ℕ → Value → Value) (u : ℕ) (c : ℕ → Value) (acts : List Act) (d : ℕ → Value) : Type 0 where
+  pub leads : Leads rules c acts d
+  pub accepted : Accepts rules u (λ i. settled (c i)) acts
+  pub brings : Brings keeps d acts
 
 -- What every crash law rests on: present values move as `keeps` says; the settled value after an act is the settled or the
 -- present one before it; a calmer piece stays calmer; and a device with calmer pieces refuses no further act.

@@ -1,16 +1,14 @@
 -- The lists of acts that calls are made of, and when such lists are phases. Assumes nothing.
 use mathlib.Core.Path.{_≡_}
-use mathlib.Core.Bool.{Bool, true, false, _||_, _&&_}
+use mathlib.Core.Bool.{Bool, true, false, cond, _||_, _&&_}
 use mathlib.Core.List.{List, [], _∷_, _++_}
 use Prim.Native.Nat.{ℕ, _+_, _*_, _/_, _<_}
 use lib.Dec.{eqb, leb, ltb}
 use lib.ListN.{length, getD}
-use Rattle.device.specs.Pieces.{settled}
 use Rattle.device.specs.Words.{NvmAct, Store, Flush, Fence, nvmRules}
 use Rattle.device.specs.Sectors.{DiskAct, Write, Sync, diskRules}
-use Rattle.crash.specs.Runs.{eachOf, Each}
-use Rattle.crash.specs.Acts.{Leads, Accepts}
-use Rattle.crash.specs.Keeping.{nvmKeeps, diskKeeps, kept}
+use Rattle.crash.specs.Runs.{eachOf}
+use Rattle.crash.specs.Keeping.{nvmKeeps, diskKeeps, kept, Phase}
 
 -- the stores of a row of words from the word x on
 abbrev pub storing : ℕ → List ℕ → List NvmAct
@@ -70,20 +68,23 @@ Writes u [] = Unit {0}
 Writes u (Write b words ∷ more) = (b < u) × (writesBlock b more ≡ false) × Writes u more
 Writes u (Sync ∷ more) = ⊥
 
--- Stores, flushes of their lines and a fence are a phase that no settled memory refuses.
+-- stores, flushes of their lines and a fence are a phase
 abbrev pub Stores-are-a-phase : Type 0
 Stores-are-a-phase =
     (u : ℕ) (stores flushes : List NvmAct) (c : ℕ → ℕ)
     → Stores u stores
     → Flushes u flushes
     → ((w : ℕ) → storesWord w stores ≡ true → flushesLine (w / 8) flushes ≡ true)
-    → Leads nvmRules c (stores ++ (flushes ++ Fence ∷ [])) (λ w. kept nvmKeeps stores w (c w))
-    × Accepts nvmRules u (λ w. settled (c w)) (stores ++ (flushes ++ Fence ∷ []))
+    → Phase nvmRules nvmKeeps u c (stores ++ (flushes ++ Fence ∷ [])) (λ w. kept nvmKeeps stores w (c w))
 
--- Writes and a sync are a phase that no settled disk refuses.
+-- writes and a sync are a phase
 abbrev pub Writes-are-a-phase : Type 0
 Writes-are-a-phase =
     (u : ℕ) (writes : List DiskAct) (e : ℕ → List ℕ)
     → Writes u writes
-    → Leads diskRules e (writes ++ Sync ∷ []) (λ s. kept diskKeeps writes s (e s))
-    × Accepts diskRules u (λ s. settled (e s)) (writes ++ Sync ∷ [])
+    → Phase diskRules diskKeeps u e (writes ++ Sync ∷ []) (λ s. kept diskKeeps writes s (e s))
+
+-- the sealing of one word is a phase
+abbrev pub Sealing-is-a-phase : Type 0
+Sealing-is-a-phase =
+    (u t v : ℕ) (c : ℕ → ℕ) → t < 32 * u → Phase nvmRules nvmKeeps u c (sealing t v) (λ w. cond (eqb w t) v (c w))
