@@ -122,7 +122,7 @@ module _ {Act Mark Value : Type 0} (rules : Rules Act Mark Value) (keeps : Act �
       run-settles r i (ap isUnsettled e) ∙ ap (λ x. settled (presentValue x)) e
 
   -- only darkness stops what is accepted
-  stops-dark : {front : List Act} {m mid n : Meaning Mark Value} {e : Refusal} (a : Act) (back : List Act) (c : ℕ → Piece Mark Value) → PerformedOn rules m front mid
+  pub stops-dark : {front : List Act} {m mid n : Meaning Mark Value} {e : Refusal} (a : Act) (back : List Act) (c : ℕ → Piece Mark Value) → PerformedOn rules m front mid
       → Accepts rules (m .size) c (front ++ a ∷ back) → ((i : ℕ) → Calmer (c i) (m .piece i)) → Refuses rules mid a e n → (e ≡ Dark) × (n ≡ darkened mid)
   stops-dark {m = m} {n = n} {e = e} a back c done (in-it, free, more) h r = only-dark rules m n a e in-it (tame .opens a c (m .piece) h free) r
   stops-dark a back c (then {a = first} {more = more} s r) (in-it, free, acc) h q =
@@ -133,3 +133,16 @@ module _ {Act Mark Value : Type 0} (rules : Rules Act Mark Value) (keeps : Act �
   only-darkness-stops acts m n e acc k =
       let (d, i) = stops-dark (k .act) (k .back) (m .piece) (k .ran) (subst (Accepts rules (m .size) (m .piece)) (k .parts) acc) (λ j. calmer-self (m .piece j)) (k .stops) in
       (d, record { front = k .front; act = k .act; back = k .back; parts = k .parts; middle = k .middle; ran = k .ran; stops = i })
+
+  -- a device with calmer pieces accepts no less
+  pub accepts-calmer : (u : ℕ) (c d : ℕ → Piece Mark Value) (acts : List Act) → ((i : ℕ) → Calmer (c i) (d i)) → Accepts rules u c acts → Accepts rules u d acts
+  accepts-calmer u c d [] h acc = tt
+  accepts-calmer u c d (a ∷ more) h (in-it, free, acc) = (
+    in-it,
+    tame .opens a c d h free,
+    accepts-calmer u (λ i. rules .makes a i (c i)) (λ i. rules .makes a i (d i)) more (λ i. tame .calmer a i (c i) (d i) (h i)) acc,
+  )
+
+  -- what is accepted at settled contents is accepted where everything is settled at them
+  pub accepts-settled : (c : ℕ → Value) (m : Meaning Mark Value) (acts : List Act) → Rests c m → Accepts rules (m .size) (λ i. settled (c i)) acts → Accepts rules (m .size) (m .piece) acts
+  accepts-settled c m acts calm = accepts-calmer (m .size) (λ i. settled (c i)) (m .piece) acts (λ i. subst (Calmer (settled (c i))) (sym (calm i)) refl)

@@ -5,3 +5,7 @@ pub mod Follow
 pub mod Blends
 pub mod Rows
 pub mod Phases
+pub mod Joins
+pub mod Atomic
+pub mod Settles
+pub mod Pairs

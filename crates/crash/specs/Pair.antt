@@ -7,13 +7,17 @@ use Rattle.std.specs.declared.result.Result.{Result}
 use Rattle.refusal.specs.declared.reason.Refusal.{Refusal}
 use Rattle.device.specs.Devices.{Meaning, darkened, Performs, Refuses, Restarted}
 use Rattle.device.specs.Words.{NvmMeaning, NvmAct, nvmRules}
-use Rattle.device.specs.Sectors.{DiskMeaning, DiskAct, diskRules}
+use Rattle.device.specs.Sectors.{DiskMeaning, DiskAct, Sync, diskRules}
 use Rattle.crash.specs.Runs.{Performed, Stopped, Halted, Ran}
 use Rattle.crash.specs.Acts.{Rests, Accepts}
+use Rattle.crash.specs.Rows.{settling}
 
 pub record Pair : Type 0 where
   pub nvm : NvmMeaning
   pub disk : DiskMeaning
+
+abbrev pub both : NvmMeaning → DiskMeaning → Pair
+both n d = record { nvm = n; disk = d }
 
 -- an act on either device
 pub data Act : Type 0 where
@@ -77,3 +81,7 @@ pub record PairRests (c : ℕ → ℕ) (e : ℕ → List ℕ) (m : Pair) : Type 
 pub record PairAccepts (m : Pair) (acts : List Act) : Type 0 where
   pub nvm : Accepts nvmRules (m .nvm .size) (m .nvm .piece) (nvmPart acts)
   pub disk : Accepts diskRules (m .disk .size) (m .disk .piece) (diskPart acts)
+
+-- the flushes of all lines of a memory of u units, a fence, and a sync of the disk
+abbrev pub settlingBoth : ℕ → List Act
+settlingBoth u = map onNvm (settling u) ++ onDisk Sync ∷ []

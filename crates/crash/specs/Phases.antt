@@ -2,14 +2,17 @@
 use mathlib.Core.Path.{_≡_}
 use mathlib.Core.Bool.{Bool, true, false}
 use mathlib.Core.List.{List, [], _∷_, _++_, map}
-use Prim.Native.Nat.{ℕ}
+use mathlib.Core.Logic.{_⊎_}
+use Prim.Native.Nat.{ℕ, _*_, _≤_}
 use Rattle.refusal.specs.declared.reason.Refusal.{Refusal}
 use Rattle.refusal.specs.declared.reason.Refusal.the-variants.{Dark}
+use Rattle.device.specs.Pieces.{settled, isUnsettled, ComesBack}
 use Rattle.device.specs.Words.{NvmAct, wordsOf, nvmRules}
 use Rattle.device.specs.Sectors.{DiskAct, sectorsOf, diskRules}
-use Rattle.crash.specs.Acts.{PerformedOn, Begun, Rests, Blend, Leads}
-use Rattle.crash.specs.Keeping.{nvmKeeps, diskKeeps, Brings}
-use Rattle.crash.specs.Pair.{Pair, Act, onNvm, onDisk, isDark, PerformedPair, HaltedPair, CutPair, PairRestarted, PairRests, PairAccepts, nvmPart, diskPart}
+use Rattle.crash.specs.Acts.{PerformedOn, Begun, Rests, Blend, Leads, Spares}
+use Rattle.crash.specs.Keeping.{kept, nvmKeeps, diskKeeps, Brings}
+use Rattle.crash.specs.Rows.{sealing}
+use Rattle.crash.specs.Pair.{Pair, Act, onNvm, onDisk, isDark, PerformedPair, HaltedPair, CutPair, PairRestarted, PairRests, PairAccepts, nvmPart, diskPart, settlingBoth}
 
 -- a run of both devices is a run of each
 abbrev pub Runs-part : Type 0
@@ -48,3 +51,33 @@ Disk-phase-settles = (c : ℕ → ℕ) (e f : ℕ → List ℕ) (acts : List Dis
 abbrev pub Disk-phase-blends : Type 0
 Disk-phase-blends = (c : ℕ → ℕ) (e f : ℕ → List ℕ) (acts : List DiskAct) (m n p : Pair)
     → PairRests c e m → Brings diskKeeps f acts → CutPair m (map onDisk acts) n → PairRestarted n p → Returns c c e f p
+
+-- Acts on the memory that one last word puts in force, while the disk is settled at e: after a cut and a restart the disk is as
+-- it was, and all of S is as it was or every word is as the whole run leaves it.
+abbrev pub Sealing-both-is-atomic : Type 0
+Sealing-both-is-atomic =
+    (c d : ℕ → ℕ) (e : ℕ → List ℕ) (acts : List NvmAct) (t v : ℕ) (S : ℕ → Bool) (m n p : Pair)
+    → PairRests c e m
+    → Leads nvmRules c acts d
+    → Spares nvmRules S acts
+    → S t ≡ true
+    → CutPair m (map onNvm (acts ++ sealing t v)) n
+    → PairRestarted n p
+    → Rests e (p .disk)
+    × (((w : ℕ) → S w ≡ true → p .nvm .piece w ≡ settled (c w)) ⊎ ((w : ℕ) → p .nvm .piece w ≡ settled (kept nvmKeeps (acts ++ sealing t v) w (c w))))
+
+-- what flushes of all lines, a fence and a sync do to any devices of which the memory has nothing to settle beyond its size
+pub record SettlesBoth (m : Pair) : Type 0 where
+  -- none of the acts is refused but for darkness
+  pub accepted : PairAccepts m (settlingBoth (m .nvm .size))
+  -- performed whole, they settle everything at the present contents
+  pub performed : (n : Pair) → PerformedPair m (settlingBoth (m .nvm .size)) n → PairRests (wordsOf (m .nvm)) (sectorsOf (m .disk)) n
+  -- cut anywhere, they leave the present contents of both devices
+  pub words : (n : Pair) → CutPair m (settlingBoth (m .nvm .size)) n → (w : ℕ) → wordsOf (n .nvm) w ≡ wordsOf (m .nvm) w
+  pub sectors : (n : Pair) → CutPair m (settlingBoth (m .nvm .size)) n → (s : ℕ) → sectorsOf (n .disk) s ≡ sectorsOf (m .disk) s
+  -- and a restart then brings back what it might have brought back before
+  pub wordsBack : (n p : Pair) → CutPair m (settlingBoth (m .nvm .size)) n → PairRestarted n p → (w : ℕ) → ComesBack (m .nvm .piece w) (p .nvm .piece w)
+  pub sectorsBack : (n p : Pair) → CutPair m (settlingBoth (m .nvm .size)) n → PairRestarted n p → (s : ℕ) → ComesBack (m .disk .piece s) (p .disk .piece s)
+
+abbrev pub Any-devices-settle : Type 0
+Any-devices-settle = (m : Pair) → ((w : ℕ) → 32 * m .nvm .size ≤ w → isUnsettled (m .nvm .piece w) ≡ false) → SettlesBoth m
