@@ -1,3 +1,5 @@
 pub mod Overlay
 pub mod Homes
 pub mod Writes
+pub mod Stages
+pub mod Checkpoints

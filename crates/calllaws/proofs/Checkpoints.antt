@@ -1,0 +1,226 @@
+-- A checkpoint, performed whole or cut, keeps the table. Assumes nothing.
+use mathlib.Core.Path.{_≡_, refl, sym, ap, subst, _∙_}
+use mathlib.Core.Bool.{Bool, true, false, cond, _&&_}
+use mathlib.Core.List.{List, [], _∷_, _++_, map}
+use mathlib.Core.Logic.{_⊎_, inl, inr}
+use Prim.Native.Nat.{ℕ, _+_, _*_, _/_, _%_, _<_}
+use native.Mathlib.Omega.{arith}
+use native.Mathlib.Nat.{le-refl}
+use lib.Dec.{eqb, ltb}
+use lib.ListN.{length}
+use Rattle.std.proofs.shelf.Ways.{tells}
+use Rattle.device.specs.Words.{wordsOf, nvmRules}
+use Rattle.device.specs.Sectors.{Sync, sectorOf, sectorsOf, diskRules}
+use Rattle.crash.specs.Runs.{done}
+use Rattle.crash.specs.Acts.{Blend}
+use Rattle.crash.specs.Keeping.{nvmKeeps, diskKeeps, kept, Phase}
+use Rattle.crash.specs.Rows.{sealing}
+use Rattle.crash.specs.Pair.{Pair, Act, onNvm, onDisk, PerformedPair, CutPair, PairRestarted, PairRests, PairAccepts}
+use Rattle.crash.specs.Phases.{Returns}
+use Rattle.crash.proofs.Runs.{stopped-split, stopped-none}
+use Rattle.crash.proofs.Phases.{writes-are-a-phase, sealing-is-a-phase}
+use Rattle.crash.proofs.PairPhases.{nvm-phase-blends, disk-phase-blends}
+use Rattle.ringlaws.specs.Layout.{Contents, headWord, headOf, tailOf, recordsOf, homeBlock}
+use Rattle.ringlaws.specs.TxnInfo.{Transaction}
+use Rattle.ringlaws.specs.Spells.{AllFair}
+use Rattle.ringlaws.specs.Newest.{laid}
+use Rattle.ringlaws.proofs.Append.{empty-spells-nothing}
+use Rattle.calls.specs.Table.{homeUnit, table, tableBlock, isNamed}
+use Rattle.calls.specs.Acts.{writingHomes, checkpointActs}
+use Rattle.calllaws.specs.Holds.{Ready, Holds, Keeps}
+use Rattle.calllaws.specs.CheckpointLaw.{KeepsTheTable, Checkpoints-keep-the-table}
+use Rattle.calllaws.proofs.Overlay.{laid-long, laid-again, unnamed-laid}
+use Rattle.calllaws.proofs.Homes.{home-long, home-near, home-written}
+use Rattle.calllaws.proofs.Writes.{writing-fits, writing-kept}
+use Rattle.calllaws.proofs.Stages.{Stage, stage-then, stage-whole, stage-accepted, nvm-stage, disk-stage, SameSizes, performed-sizes, restarted-sizes, sizes-then, ready-again}
+
+-- the sectors after the homes were written, and the words after the head has moved up to the tail
+abbrev pub homesWritten : ℕ → List Transaction → (ℕ → List ℕ) → ℕ → List ℕ
+homesWritten B ts e s = kept diskKeeps (writingHomes B ts e) s (e s)
+
+abbrev pub headMoved : Contents → Contents
+headMoved c w = cond (eqb w headWord) (tailOf c) (c w)
+
+module _ (B : ℕ) (ts : List Transaction) (e : ℕ → List ℕ) (fair : AllFair B ts) where
+  table-long : (r : ℕ) → length (table ts e r) ≡ 32
+  table-long r = laid-long B ts (homeUnit e) fair (home-long e) r
+
+  -- a sector after the writes, by whether its block is written
+  new-sector : (r : ℕ) (t : Bool) → ltb (homeBlock r) B && isNamed ts (homeBlock r) ≡ t
+      → homesWritten B ts e (r / 2) ≡ cond t (sectorOf (tableBlock (table ts e) (homeBlock r)) (r / 2 % 8)) (e (r / 2))
+  new-sector r t h =
+      let q : r / 2 / 8 ≡ r / 16 = omega arith in
+      writing-kept (isNamed ts) (tableBlock (table ts e)) B (r / 2) (e (r / 2))
+      ∙ ap (λ b. cond (ltb b B && isNamed ts b) (sectorOf (tableBlock (table ts e) b) (r / 2 % 8)) (e (r / 2))) q
+      ∙ ap (λ x. cond x (sectorOf (tableBlock (table ts e) (homeBlock r)) (r / 2 % 8)) (e (r / 2))) h
+
+  -- each home is the old one, or the table's unit
+  new-home : (r : ℕ) (t : Bool) → ltb (homeBlock r) B && isNamed ts (homeBlock r) ≡ t
+      → homeUnit (homesWritten B ts e) r ≡ cond t (table ts e r) (homeUnit e r)
+  new-home r true h = home-written (table ts e) (homesWritten B ts e) r (table-long r) (new-sector r true h)
+  new-home r false h = home-near e (homesWritten B ts e) r (new-sector r false h)
+
+  -- on a disk whose sectors are the old or the new ones the ring gives the same table
+  pub blended-table : (x : ℕ → List ℕ) → Blend e (homesWritten B ts e) x → (r : ℕ) → table ts x r ≡ table ts e r
+  blended-table x blend r = laid-again ts (homeUnit e) (homeUnit x) r (by-sector (blend (r / 2)))
+    where
+      by-test : (t : Bool) → ltb (homeBlock r) B && isNamed ts (homeBlock r) ≡ t
+          → (homeUnit (homesWritten B ts e) r ≡ homeUnit e r) ⊎ (homeUnit (homesWritten B ts e) r ≡ table ts e r)
+      by-test true h = inr (new-home r true h)
+      by-test false h = inl (new-home r false h)
+
+      moved : {u v : List ℕ} → homeUnit x r ≡ homeUnit (homesWritten B ts e) r
+          → (homeUnit (homesWritten B ts e) r ≡ u) ⊎ (homeUnit (homesWritten B ts e) r ≡ v) → (homeUnit x r ≡ u) ⊎ (homeUnit x r ≡ v)
+      moved q (inl h) = inl (q ∙ h)
+      moved q (inr h) = inr (q ∙ h)
+
+      by-sector : (x (r / 2) ≡ e (r / 2)) ⊎ (x (r / 2) ≡ homesWritten B ts e (r / 2)) → (homeUnit x r ≡ homeUnit e r) ⊎ (homeUnit x r ≡ table ts e r)
+      by-sector (inl h) = inl (home-near e x r h)
+      by-sector (inr h) = moved (home-near (homesWritten B ts e) x r h) (by-test (ltb (homeBlock r) B && isNamed ts (homeBlock r)) refl)
+
+  -- the disk alone has the table after the writes
+  pub written-table : (r : ℕ) → r < recordsOf B → homeUnit (homesWritten B ts e) r ≡ table ts e r
+  written-table r lt = by-name (isNamed ts (homeBlock r)) refl
+    where
+      inside : ltb (homeBlock r) B ≡ true
+      inside = grind (arith, tells)
+
+      by-name : (t : Bool) → isNamed ts (homeBlock r) ≡ t → homeUnit (homesWritten B ts e) r ≡ table ts e r
+      by-name true h = new-home r true (ap (λ t. t && isNamed ts (homeBlock r)) inside ∙ h)
+      by-name false h = new-home r false (ap (λ t. t && isNamed ts (homeBlock r)) inside ∙ h) ∙ sym (unnamed-laid ts (homeUnit e) r h)
+
+-- what the contents hold, on another disk that the ring gives the same table on, and after the head has moved
+holds-on : {N B : ℕ} {c : Contents} {e : ℕ → List ℕ} {ts : List Transaction} {units : ℕ → List ℕ} (x : ℕ → List ℕ) → Holds N B c e ts units
+    → ((r : ℕ) → table ts x r ≡ table ts e r) → Holds N B c x ts units
+holds-on x h same = record {
+  mark = h .mark;
+  places = h .places;
+  blocks = h .blocks;
+  head = h .head;
+  tail = h .tail;
+  spells = h .spells;
+  same = λ r lt. same r ∙ h .same r lt;
+}
+
+holds-empty : {N B : ℕ} {c : Contents} {e : ℕ → List ℕ} {ts : List Transaction} {units : ℕ → List ℕ} → Holds N B c e ts units
+    → Holds N B (headMoved c) (homesWritten B ts e) [] units
+unfolding laid
+holds-empty {N} {B} {c} {e} {ts} h = record {
+  mark = h .mark;
+  places = h .places;
+  blocks = h .blocks;
+  head = h .tail;
+  tail = h .tail;
+  spells = empty-spells-nothing N B (headMoved c) (h .tail) refl;
+  same = λ r lt. written-table B ts e (h .spells .fair) r lt ∙ h .same r lt;
+}
+
+-- contents by their words
+same-words : {X : Type 0} (c d : ℕ → X) → ((w : ℕ) → d w ≡ c w) → d ≡ c
+same-words c d h = λ i w. h w i
+
+one-blend : {X : Type 0} (c x : ℕ → X) → Blend c c x → (w : ℕ) → x w ≡ c w
+one-blend c x blend w = elim (blend w) [ inl h ↦ h | inr h ↦ h ]
+
+-- the head is the old one or the new one, and no other word moves
+moved-blend : (c x : Contents) → Blend c (headMoved c) x → (x ≡ c) ⊎ (x ≡ headMoved c)
+moved-blend c x blend = by-head (blend headWord)
+  where
+    other : (w : ℕ) → eqb w headWord ≡ false → x w ≡ c w
+    other w h = elim (blend w) [ inl q ↦ q | inr q ↦ q ∙ ap (λ t. cond t (tailOf c) (c w)) h ]
+
+    by-head : (x headWord ≡ c headWord) ⊎ (x headWord ≡ tailOf c) → (x ≡ c) ⊎ (x ≡ headMoved c)
+    by-head (inl q) = inl (same-words c x (λ w. by-word w (eqb w headWord) refl))
+      where
+        by-word : (w : ℕ) (t : Bool) → eqb w headWord ≡ t → x w ≡ c w
+        by-word w true h = let e : w ≡ 8 = grind (arith, tells) in ap x e ∙ q ∙ ap c (sym e)
+        by-word w false h = other w h
+    by-head (inr q) = inr (same-words (headMoved c) x (λ w. by-word w (eqb w headWord) refl))
+      where
+        by-word : (w : ℕ) (t : Bool) → eqb w headWord ≡ t → x w ≡ cond t (tailOf c) (c w)
+        by-word w true h = let e : w ≡ 8 = grind (arith, tells) in ap x e ∙ q
+        by-word w false h = other w h
+
+module _ (N B : ℕ) (c : Contents) (e : ℕ → List ℕ) (ts : List Transaction) where
+  homes-phase : Phase diskRules diskKeeps B e (writingHomes B ts e ++ Sync ∷ []) (homesWritten B ts e)
+  homes-phase = writes-are-a-phase B (writingHomes B ts e) e (writing-fits (isNamed ts) (tableBlock (table ts e)) B B (le-refl B))
+
+  head-phase : Phase nvmRules nvmKeeps (N + 1) c (sealing headWord (tailOf c)) (headMoved c)
+  head-phase = sealing-is-a-phase (N + 1) headWord (tailOf c) c (omega arith)
+
+  abbrev acts : List Act
+  acts = map onDisk (writingHomes B ts e ++ Sync ∷ []) ++ map onNvm (sealing headWord (tailOf c))
+
+  both-phases : Stage (N + 1) B c e acts (headMoved c) (homesWritten B ts e)
+  both-phases = stage-then (disk-stage homes-phase) (nvm-stage head-phase)
+
+module _ {N B : ℕ} {c : Contents} {e : ℕ → List ℕ} {ts : List Transaction} {units : ℕ → List ℕ} {m : Pair} (ready : Ready N B c e m) (holds : Holds N B c e ts units) where
+  -- cut while the homes are written: the ring is as it was
+  cut-homes : (n p : Pair) → CutPair m (map onDisk (writingHomes B ts e ++ Sync ∷ [])) n → PairRestarted n p → Keeps N B p ts units
+  cut-homes n p cut again =
+      let back = disk-phase-blends c e (homesWritten B ts e) (writingHomes B ts e ++ Sync ∷ []) m n p (ready .rests) (homes-phase N B c e ts .brings) cut again in
+      let old : c ≡ wordsOf (p .nvm) = sym (same-words c (wordsOf (p .nvm)) (one-blend c (wordsOf (p .nvm)) (back .words))) in
+      record {
+        words = wordsOf (p .nvm);
+        sectors = sectorsOf (p .disk);
+        ready = ready-again ready (restarted-sizes cut again) (back .rests);
+        holds = subst (λ (x : Contents). Holds N B x (sectorsOf (p .disk)) ts units) old
+            (holds-on (sectorsOf (p .disk)) holds (blended-table B ts e (holds .spells .fair) (sectorsOf (p .disk)) (back .sectors)));
+      }
+
+  -- cut while the head moves: the disk has the table, under the old ring and alone
+  cut-head : (k n p : Pair) → PerformedPair m (map onDisk (writingHomes B ts e ++ Sync ∷ [])) k → CutPair k (map onNvm (sealing headWord (tailOf c))) n → PairRestarted n p
+      → (us : List Transaction) × Keeps N B p us units
+  cut-head k n p ran cut again =
+      let here = stage-whole (disk-stage (homes-phase N B c e ts)) (ready .rests) ran in
+      let back = nvm-phase-blends c (headMoved c) (homesWritten B ts e) (sealing headWord (tailOf c)) k n p here (head-phase N B c e ts .brings) cut again in
+      let new : homesWritten B ts e ≡ sectorsOf (p .disk) =
+      sym (same-words (homesWritten B ts e) (sectorsOf (p .disk)) (one-blend (homesWritten B ts e) (sectorsOf (p .disk)) (back .sectors)))
+      in
+      let again-ready = ready-again ready (sizes-then (performed-sizes ran) (restarted-sizes cut again)) (back .rests) in
+      elim (moved-blend c (wordsOf (p .nvm)) (back .words)) [
+        | inl q ↦ (ts, record {
+          words = wordsOf (p .nvm);
+          sectors = sectorsOf (p .disk);
+          ready = again-ready;
+          holds = subst (λ (x : Contents). Holds N B x (sectorsOf (p .disk)) ts units) (sym q)
+              (subst (λ (x : ℕ → List ℕ). Holds N B c x ts units) new (holds-on (homesWritten B ts e) holds (blended-table B ts e (holds .spells .fair) (homesWritten B ts e) (λ s. inr refl))));
+        })
+        | inr q ↦ ([], record {
+          words = wordsOf (p .nvm);
+          sectors = sectorsOf (p .disk);
+          ready = again-ready;
+          holds = subst (λ (x : Contents). Holds N B x (sectorsOf (p .disk)) [] units) (sym q)
+              (subst (λ (x : ℕ → List ℕ). Holds N B (headMoved c) x [] units) new (holds-empty holds));
+        })
+      ]
+
+  pub keeps-acts : KeepsTheTable N B units (acts N B c e ts) m
+  keeps-acts = record {
+    accepts = stage-accepted (both-phases N B c e ts) (ready .units) (ready .blocks) (ready .rests);
+    whole = λ n r. record {
+      words = headMoved c;
+      sectors = homesWritten B ts e;
+      ready = ready-again ready (performed-sizes r) (stage-whole (both-phases N B c e ts) (ready .rests) r);
+      holds = holds-empty holds;
+    };
+    cut = λ n p k again. elim (stopped-split (map onDisk (writingHomes B ts e ++ Sync ∷ [])) (map onNvm (sealing headWord (tailOf c))) k) [
+      | inl first ↦ (ts, cut-homes n p first again)
+      | inr (mid, ran, second) ↦ cut-head mid n p ran second again
+    ];
+  }
+
+-- an empty ring needs no act
+keeps-nothing : {N B : ℕ} {c : Contents} {e : ℕ → List ℕ} {units : ℕ → List ℕ} {m : Pair} → Ready N B c e m → Holds N B c e [] units → KeepsTheTable N B units [] m
+keeps-nothing {N} {B} {c} {e} {units} {m} ready holds = record {
+  accepts = record { nvm = tt; disk = tt };
+  whole = whole;
+  cut = λ n p k again. absurd (stopped-none k);
+}
+  where
+    whole : (n : Pair) → PerformedPair m [] n → Keeps N B n [] units
+    whole n done = record { words = c; sectors = e; ready = ready; holds = holds }
+
+pub checkpoints-keep-the-table : Checkpoints-keep-the-table
+checkpoints-keep-the-table N B c e [] units m ready holds = keeps-nothing ready holds
+checkpoints-keep-the-table N B c e (t ∷ ts) units m ready holds = keeps-acts ready holds
