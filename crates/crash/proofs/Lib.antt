@@ -9,3 +9,4 @@ pub mod Joins
 pub mod Atomic
 pub mod Settles
 pub mod Pairs
+pub mod PairPhases
