@@ -116,7 +116,7 @@ holds-empty {N} {B} {c} {e} {ts} h = record {
 }
 
 -- contents by their words
-same-words : {X : Type 0} (c d : ℕ → X) → ((w : ℕ) → d w ≡ c w) → d ≡ c
+pub same-words : {X : Type 0} (c d : ℕ → X) → ((w : ℕ) → d w ≡ c w) → d ≡ c
 same-words c d h = λ i w. h w i
 
 one-blend : {X : Type 0} (c x : ℕ → X) → Blend c c x → (w : ℕ) → x w ≡ c w
@@ -172,7 +172,7 @@ module _ {N B : ℕ} {c : Contents} {e : ℕ → List ℕ} {ts : List Transactio
   cut-head : (k n p : Pair) → PerformedPair m (map onDisk (writingHomes B ts e ++ Sync ∷ [])) k → CutPair k (map onNvm (sealing headWord (tailOf c))) n → PairRestarted n p
       → (us : List Transaction) × Keeps N B p us units
   cut-head k n p ran cut again =
-      let here = stage-whole (disk-stage (homes-phase N B c e ts)) (ready .rests) ran in
+      let here = stage-whole {u = N + 1} (disk-stage (homes-phase N B c e ts)) (ready .rests) ran in
       let back = nvm-phase-blends c (headMoved c) (homesWritten B ts e) (sealing headWord (tailOf c)) k n p here (head-phase N B c e ts .brings) cut again in
       let new : homesWritten B ts e ≡ sectorsOf (p .disk) =
       sym (same-words (homesWritten B ts e) (sectorsOf (p .disk)) (one-blend (homesWritten B ts e) (sectorsOf (p .disk)) (back .sectors)))
@@ -209,6 +209,16 @@ module _ {N B : ℕ} {c : Contents} {e : ℕ → List ℕ} {ts : List Transactio
       | inr (mid, ran, second) ↦ cut-head mid n p ran second again
     ];
   }
+
+-- what a checkpoint leads to
+abbrev pub checkpointed : ℕ → Contents → List Transaction → (ℕ → List ℕ) → Contents × (ℕ → List ℕ)
+checkpointed B c [] e = (c, e)
+checkpointed B c (t ∷ ts) e = (headMoved c, homesWritten B (t ∷ ts) e)
+
+pub checkpoint-stage : (N B : ℕ) (c : Contents) (ts : List Transaction) (e : ℕ → List ℕ)
+    → Stage (N + 1) B c e (checkpointActs B c ts e) (checkpointed B c ts e .0) (checkpointed B c ts e .1)
+checkpoint-stage N B c [] e = record { words = λ w. refl; sectors = λ s. refl; stored = tt; written = tt }
+checkpoint-stage N B c (t ∷ ts) e = both-phases N B c e (t ∷ ts)
 
 -- an empty ring needs no act
 keeps-nothing : {N B : ℕ} {c : Contents} {e : ℕ → List ℕ} {units : ℕ → List ℕ} {m : Pair} → Ready N B c e m → Holds N B c e [] units → KeepsTheTable N B units [] m

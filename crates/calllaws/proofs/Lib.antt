@@ -3,3 +3,5 @@ pub mod Homes
 pub mod Writes
 pub mod Stages
 pub mod Checkpoints
+pub mod Settling
+pub mod Mounts
