@@ -179,20 +179,26 @@ module _ {N B : ℕ} {c : Contents} {e : ℕ → List ℕ} {ts : List Transactio
       in
       let again-ready = ready-again ready (sizes-then (performed-sizes ran) (restarted-sizes cut again)) (back .rests) in
       elim (moved-blend c (wordsOf (p .nvm)) (back .words)) [
-        | inl q ↦ (ts, record {
-          words = wordsOf (p .nvm);
-          sectors = sectorsOf (p .disk);
-          ready = again-ready;
-          holds = subst (λ (x : Contents). Holds N B x (sectorsOf (p .disk)) ts units) (sym q)
-              (subst (λ (x : ℕ → List ℕ). Holds N B c x ts units) new (holds-on (homesWritten B ts e) holds (blended-table B ts e (holds .spells .fair) (homesWritten B ts e) (λ s. inr refl))));
-        })
-        | inr q ↦ ([], record {
-          words = wordsOf (p .nvm);
-          sectors = sectorsOf (p .disk);
-          ready = again-ready;
-          holds = subst (λ (x : Contents). Holds N B x (sectorsOf (p .disk)) [] units) (sym q)
-              (subst (λ (x : ℕ → List ℕ). Holds N B (headMoved c) x [] units) new (holds-empty holds));
-        })
+        | inl q ↦ (
+          ts,
+          record {
+            words = wordsOf (p .nvm);
+            sectors = sectorsOf (p .disk);
+            ready = again-ready;
+            holds = subst (λ (x : Contents). Holds N B x (sectorsOf (p .disk)) ts units) (sym q)
+                (subst (λ (x : ℕ → List ℕ). Holds N B c x ts units) new (holds-on (homesWritten B ts e) holds (blended-table B ts e (holds .spells .fair) (homesWritten B ts e) (λ s. inr refl))));
+          },
+        )
+        | inr q ↦ (
+          [],
+          record {
+            words = wordsOf (p .nvm);
+            sectors = sectorsOf (p .disk);
+            ready = again-ready;
+            holds = subst (λ (x : Contents). Holds N B x (sectorsOf (p .disk)) [] units) (sym q)
+                (subst (λ (x : ℕ → List ℕ). Holds N B (headMoved c) x [] units) new (holds-empty holds));
+          },
+        )
       ]
 
   pub keeps-acts : KeepsTheTable N B units (acts N B c e ts) m

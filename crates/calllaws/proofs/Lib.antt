@@ -5,3 +5,4 @@ pub mod Stages
 pub mod Checkpoints
 pub mod Settling
 pub mod Mounts
+pub mod Formats

@@ -66,11 +66,14 @@ mounts-keep-the-table N B c e ts units m ready holds = record { accepts = accept
 
     cut : (n p : Pair) → CutPair m (settlingBoth (N + 1) ++ checkpointActs B c ts e) n → PairRestarted n p → (us : List Transaction) × Keeps N B p us units
     cut n p k again = elim (stopped-split (settlingBoth (N + 1)) (checkpointActs B c ts e) k) [
-      | inl first ↦ (ts, record {
-        words = c;
-        sectors = e;
-        ready = ready-again ready (restarted-sizes first again) (settling-restarted (N + 1) (ready .units) (ready .rests) first again);
-        holds = holds;
-      })
+      | inl first ↦ (
+        ts,
+        record {
+          words = c;
+          sectors = e;
+          ready = ready-again ready (restarted-sizes first again) (settling-restarted (N + 1) (ready .units) (ready .rests) first again);
+          holds = holds;
+        },
+      )
       | inr (mid, ran, second) ↦ later mid (settled-again mid ran) .cut n p second again
     ]
