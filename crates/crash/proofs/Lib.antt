@@ -3,9 +3,9 @@ pub mod Tame
 pub mod Steps
 pub mod Follow
 pub mod Blends
+pub mod Touching
 pub mod Rows
 pub mod Phases
-pub mod Joins
 pub mod Atomic
 pub mod Settles
 pub mod Pairs

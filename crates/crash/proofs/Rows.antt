@@ -1,41 +1,45 @@
--- Rows of stores, flushes and writes, piece by piece. Assumes nothing.
+-- Lists of stores, flushes and writes: how they join, and rows of them. Assumes nothing.
 use mathlib.Core.Path.{_≡_, refl, sym, ap, subst, _∙_}
 use mathlib.Core.Bool.{Bool, true, false, cond, _||_, _&&_}
 use mathlib.Core.List.{List, [], _∷_, _++_}
-use mathlib.Core.Logic.{_⊎_, inl, inr}
-use Prim.Native.Nat.{ℕ, zero, suc, _+_, _-_, _*_, _/_, _%_, _<_, _≤_}
+use Prim.Native.Nat.{ℕ, zero, suc, _+_, _-_, _*_, _/_, _<_, _≤_}
 use lib.Dec.{eqb, leb, ltb}
 use lib.ListN.{length, getD}
 use native.Mathlib.Omega.{arith}
 use Rattle.std.proofs.shelf.Ways.{tells}
-use Rattle.device.specs.Pieces.{Piece, settled, unsettled, settledValue, presentValue, isUnsettled}
-use Rattle.device.specs.Words.{waiting, flushed, Word, NvmAct, Store, Flush, Fence, flushedWord, fencedWord, nvmRules}
-use Rattle.device.specs.Sectors.{waits, Sector, DiskAct, Write, Sync, sectorOf, anyBelow, diskRules}
-use Rattle.crash.specs.Runs.{eachOf, Each}
-use Rattle.crash.specs.Acts.{made, Leads, Accepts, Spares}
+use Rattle.device.specs.Words.{NvmAct, Store, Flush, Fence, nvmRules}
+use Rattle.device.specs.Sectors.{DiskAct, Write, Sync, diskRules}
+use Rattle.crash.specs.Runs.{eachOf, Each, some}
 use Rattle.crash.specs.Keeping.{nvmKeeps, diskKeeps, kept}
-use Rattle.crash.specs.Rows.{storing, flushing, sealing, settling, inside, storesWord, flushesLine, writesBlock, Stores, Flushes, Writes}
-use Rattle.crash.proofs.Follow.{made-append, kept-append, accepts-append}
+use Rattle.crash.specs.Rows.{storing, flushing, inside, nvmTouches, nvmFlushes, diskTouches, storesWord, flushesLine, writesBlock, Once, StoreWithin, FlushWithin, WriteWithin, Stores, Flushes, Writes, Unstored-is-spared, Unwritten-is-spared}
+use Rattle.crash.proofs.Runs.{each-append, each-each}
+use Rattle.crash.proofs.Tame.{nvm-is-tame, disk-is-tame}
+use Rattle.crash.proofs.Follow.{kept-append}
+use Rattle.crash.proofs.Touching.{some-append, once-join, once-each, missed-spared, nvm-touching, disk-touching}
 
--- tests over lists, one after another
-pub stores-append : (w : ℕ) (xs ys : List NvmAct) → storesWord w (xs ++ ys) ≡ storesWord w xs || storesWord w ys
-stores-append w [] ys = refl
-stores-append w (Store x v ∷ xs) ys = elim (eqb w x) as (λ t. t || storesWord w (xs ++ ys) ≡ (t || storesWord w xs) || storesWord w ys) [ true ↦ refl | false ↦ stores-append w xs ys ]
-stores-append w (Flush l ∷ xs) ys = stores-append w xs ys
-stores-append w (Fence ∷ xs) ys = stores-append w xs ys
+-- lists of stores that share no word, of writes that share no block
+pub stores-join : (u : ℕ) (xs ys : List NvmAct) → Stores u xs → Stores u ys → ((w : ℕ) → storesWord w xs ≡ true → storesWord w ys ≡ false) → Stores u (xs ++ ys)
+stores-join u xs ys (h, a) (k, b) apart = (each-append (StoreWithin u) xs ys h k, once-join nvmTouches xs ys a b apart)
 
-pub flushes-append : (l : ℕ) (xs ys : List NvmAct) → flushesLine l (xs ++ ys) ≡ flushesLine l xs || flushesLine l ys
-flushes-append l [] ys = refl
-flushes-append l (Store x v ∷ xs) ys = flushes-append l xs ys
-flushes-append l (Flush k ∷ xs) ys = elim (eqb l k) as (λ t. t || flushesLine l (xs ++ ys) ≡ (t || flushesLine l xs) || flushesLine l ys) [ true ↦ refl | false ↦ flushes-append l xs ys ]
-flushes-append l (Fence ∷ xs) ys = flushes-append l xs ys
+pub stores-each : (u : ℕ) (f : ℕ → List NvmAct) (n : ℕ) → ((i : ℕ) → i < n → Stores u (f i))
+    → ((i j w : ℕ) → i < j → j < n → storesWord w (f i) ≡ true → storesWord w (f j) ≡ false) → Stores u (eachOf f n)
+stores-each u f n h apart = (each-each (StoreWithin u) f n (λ i l. h i l .0), once-each nvmTouches f n (λ i l. h i l .1) apart)
 
-pub writes-append : (b : ℕ) (xs ys : List DiskAct) → writesBlock b (xs ++ ys) ≡ writesBlock b xs || writesBlock b ys
-writes-append b [] ys = refl
-writes-append b (Write x words ∷ xs) ys = elim (eqb b x) as (λ t. t || writesBlock b (xs ++ ys) ≡ (t || writesBlock b xs) || writesBlock b ys) [ true ↦ refl | false ↦ writes-append b xs ys ]
-writes-append b (Sync ∷ xs) ys = writes-append b xs ys
+pub writes-join : (u : ℕ) (xs ys : List DiskAct) → Writes u xs → Writes u ys → ((b : ℕ) → writesBlock b xs ≡ true → writesBlock b ys ≡ false) → Writes u (xs ++ ys)
+writes-join u xs ys (h, a) (k, b) apart = (each-append (WriteWithin u) xs ys h k, once-join diskTouches xs ys a b apart)
 
--- a row of stores from x on
+pub writes-each : (u : ℕ) (f : ℕ → List DiskAct) (n : ℕ) → ((i : ℕ) → i < n → Writes u (f i))
+    → ((i j b : ℕ) → i < j → j < n → writesBlock b (f i) ≡ true → writesBlock b (f j) ≡ false) → Writes u (eachOf f n)
+writes-each u f n h apart = (each-each (WriteWithin u) f n (λ i l. h i l .0), once-each diskTouches f n (λ i l. h i l .1) apart)
+
+-- one act
+pub store-one : (u x v : ℕ) → x < 32 * u → Stores u (Store x v ∷ [])
+store-one u x v lt = ((lt, tt), ((λ w e. refl), tt))
+
+pub write-one : (u b : ℕ) (words : List ℕ) → b < u → Writes u (Write b words ∷ [])
+write-one u b words lt = ((lt, tt), ((λ x e. refl), tt))
+
+-- a row of stores from the word x on
 module _ (x : ℕ) (v : ℕ → ℕ) where
   abbrev pub stores : ℕ → List NvmAct
   stores n = eachOf (λ i. Store (x + i) (v i) ∷ []) n
@@ -44,7 +48,7 @@ module _ (x : ℕ) (v : ℕ → ℕ) where
   unfolding eachOf
   stores-word zero w = grind (arith, tells)
   stores-word (suc n) w =
-      stores-append w (stores n) (Store (x + n) (v n) ∷ [])
+      some-append (λ a. nvmTouches a w) (stores n) (Store (x + n) (v n) ∷ [])
       ∙ ap (λ t. t || (eqb w (x + n) || false)) (stores-word n w)
       ∙ grind (arith, tells)
 
@@ -56,12 +60,35 @@ module _ (x : ℕ) (v : ℕ → ℕ) where
       ∙ ap (λ t. cond (eqb w (x + n)) (v n) t) (stores-kept n w p)
       ∙ grind (arith, tells)
 
+  pub stores-row : (u n : ℕ) → x + n ≤ 32 * u → Stores u (stores n)
+  stores-row u n fits = stores-each u (λ i. Store (x + i) (v i) ∷ []) n (λ i l. store-one u (x + i) (v i) (omega arith)) (λ i j w l k e. grind (arith, tells))
+
+module _ (x : ℕ) (words : List ℕ) where
+  pub storing-word : (w : ℕ) → storesWord w (storing x words) ≡ inside x (x + length words) w
+  storing-word = stores-word x (λ i. getD words i 0) (length words)
+
+  pub storing-kept : (w p : ℕ) → kept nvmKeeps (storing x words) w p ≡ cond (inside x (x + length words) w) (getD words (w - x) 0) p
+  storing-kept = stores-kept x (λ i. getD words i 0) (length words)
+
+  pub storing-row : (u : ℕ) → x + length words ≤ 32 * u → Stores u (storing x words)
+  storing-row u = stores-row x (λ i. getD words i 0) u (length words)
+
 -- a row of flushes from the line l on
 module _ (l : ℕ) where
   pub flushing-line : (k line : ℕ) → flushesLine line (flushing l k) ≡ inside l (l + k) line
   unfolding eachOf
   flushing-line zero line = grind (arith, tells)
   flushing-line (suc k) line =
-      flushes-append line (flushing l k) (Flush (l + k) ∷ [])
+      some-append (λ a. nvmFlushes a line) (flushing l k) (Flush (l + k) ∷ [])
       ∙ ap (λ t. t || (eqb line (l + k) || false)) (flushing-line k line)
       ∙ grind (arith, tells)
+
+  pub flushing-row : (u k : ℕ) → l + k ≤ 4 * u → Flushes u (flushing l k)
+  flushing-row u k fits = each-each (FlushWithin u) (λ i. Flush (l + i) ∷ []) k (λ i lt. (omega arith, tt))
+
+-- what is not stored, or not written, is spared
+pub unstored-spared : Unstored-is-spared
+unstored-spared = missed-spared nvmRules nvmKeeps nvmTouches nvm-is-tame nvm-touching
+
+pub unwritten-spared : Unwritten-is-spared
+unwritten-spared = missed-spared diskRules diskKeeps (λ a s. diskTouches a (s / 8)) disk-is-tame disk-touching

@@ -16,13 +16,12 @@ use Rattle.crash.specs.Acts.{PerformedOn, Rests, made, Accepts}
 use Rattle.crash.specs.Keeping.{nvmKeeps, diskKeeps, Quiet}
 use Rattle.crash.specs.Rows.{flushing, settling, inside, flushesLine, Flushes}
 use Rattle.crash.specs.Crash.{Flushes-settle-all, Sync-settles-all}
-use Rattle.crash.proofs.Runs.{each-append}
+use Rattle.crash.proofs.Runs.{each-append, each-turned}
 use Rattle.crash.proofs.Tame.{nvm-is-tame}
 use Rattle.crash.proofs.Steps.{settled-is, sync-settles}
 use Rattle.crash.proofs.Follow.{made-append, run-settles, accepts-append}
-use Rattle.crash.proofs.Rows.{flushing-line}
-use Rattle.crash.proofs.Joins.{flushing-row}
-use Rattle.crash.proofs.Phases.{flushes-made, flushes-accepted}
+use Rattle.crash.proofs.Rows.{flushing-line, flushing-row}
+use Rattle.crash.proofs.Phases.{flushes-made, flushes-quiet, flushes-accepted}
 
 flushed-fenced : (c : Word) → fencedWord (flushedWord c) ≡ settled (presentValue c)
 flushed-fenced (settled v) = refl
@@ -35,7 +34,7 @@ fenced-settled c e = ap fencedWord (settled-is c e)
 settling-made : (u w : ℕ) (c : Word) → (32 * u ≤ w → isUnsettled c ≡ false) → made nvmRules (settling u) w c ≡ settled (presentValue c)
 settling-made u w c ends =
     made-append nvmRules (flushing 0 (4 * u)) (Fence ∷ []) w c
-    ∙ ap fencedWord (flushes-made u (flushing 0 (4 * u)) (flushing-row u 0 (4 * u) (omega arith)) w c ∙ ap (λ t. cond t (flushedWord c) c) (flushing-line 0 (4 * u) (w / 8)))
+    ∙ ap fencedWord (flushes-made u (flushing 0 (4 * u)) (flushing-row 0 u (4 * u) (omega arith)) w c ∙ ap (λ t. cond t (flushedWord c) c) (flushing-line 0 (4 * u) (w / 8)))
     ∙ by-test (inside 0 (0 + 4 * u) (w / 8)) refl
   where
     by-test : (t : Bool) → inside 0 (0 + 4 * u) (w / 8) ≡ t → fencedWord (cond t (flushedWord c) c) ≡ settled (presentValue c)
@@ -51,15 +50,9 @@ pub sync-settles-all : Sync-settles-all
 sync-settles-all m n (then s done) = sync-settles m n s
 
 -- neither moves a present value, and neither is refused
-flushes-quiet : (u : ℕ) (acts : List NvmAct) → Flushes u acts → Quiet nvmKeeps acts
-flushes-quiet u [] h = tt
-flushes-quiet u (Store x v ∷ more) h = absurd h
-flushes-quiet u (Flush l ∷ more) (lt, h) = ((λ w p. refl), flushes-quiet u more h)
-flushes-quiet u (Fence ∷ more) h = absurd h
-
 pub settling-quiet : (u : ℕ) → Quiet nvmKeeps (settling u)
-settling-quiet u = each-append _ (flushing 0 (4 * u)) (Fence ∷ []) (flushes-quiet u (flushing 0 (4 * u)) (flushing-row u 0 (4 * u) (omega arith))) ((λ w p. refl), tt)
+settling-quiet u = each-append _ (flushing 0 (4 * u)) (Fence ∷ []) (each-turned _ _ (flushes-quiet u) (flushing 0 (4 * u)) (flushing-row 0 u (4 * u) (omega arith))) ((λ w p. refl), tt)
 
 pub settling-accepted : (u : ℕ) (piece : ℕ → Word) → Accepts nvmRules u piece (settling u)
 settling-accepted u piece =
-    accepts-append nvmRules (flushing 0 (4 * u)) (Fence ∷ []) u piece (flushes-accepted u piece (flushing 0 (4 * u)) (flushing-row u 0 (4 * u) (omega arith))) (refl, refl, tt)
+    accepts-append nvmRules (flushing 0 (4 * u)) (Fence ∷ []) u piece (flushes-accepted u piece (flushing 0 (4 * u)) (flushing-row 0 u (4 * u) (omega arith))) (refl, refl, tt)

@@ -1,13 +1,14 @@
 -- The lists of acts that calls are made of, and when such lists are phases. Assumes nothing.
 use mathlib.Core.Path.{_≡_}
-use mathlib.Core.Bool.{Bool, true, false, cond, _||_, _&&_}
+use mathlib.Core.Bool.{Bool, true, false, cond, _&&_}
 use mathlib.Core.List.{List, [], _∷_, _++_}
 use Prim.Native.Nat.{ℕ, _+_, _*_, _/_, _<_}
 use lib.Dec.{eqb, leb, ltb}
 use lib.ListN.{length, getD}
 use Rattle.device.specs.Words.{NvmAct, Store, Flush, Fence, nvmRules}
 use Rattle.device.specs.Sectors.{DiskAct, Write, Sync, diskRules}
-use Rattle.crash.specs.Runs.{eachOf}
+use Rattle.crash.specs.Runs.{eachOf, Each, some}
+use Rattle.crash.specs.Acts.{Spares}
 use Rattle.crash.specs.Keeping.{nvmKeeps, diskKeeps, kept, Phase}
 
 -- the stores of a row of words from the word x on
@@ -30,43 +31,60 @@ settling u = flushing 0 (4 * u) ++ Fence ∷ []
 abbrev pub inside : ℕ → ℕ → ℕ → Bool
 inside from to w = leb from w && ltb w to
 
--- whether some act stores the word w, flushes the line l, writes the block b
+-- whether an act gives the word w a new value, flushes the line l, gives the block b new contents
+abbrev pub nvmTouches : NvmAct → ℕ → Bool
+nvmTouches (Store x v) w = eqb w x
+nvmTouches (Flush l) w = false
+nvmTouches Fence w = false
+
+abbrev pub nvmFlushes : NvmAct → ℕ → Bool
+nvmFlushes (Store x v) l = false
+nvmFlushes (Flush k) l = eqb l k
+nvmFlushes Fence l = false
+
+abbrev pub diskTouches : DiskAct → ℕ → Bool
+diskTouches (Write x words) b = eqb b x
+diskTouches Sync b = false
+
+-- whether some act of a list does
 abbrev pub storesWord : ℕ → List NvmAct → Bool
-storesWord w [] = false
-storesWord w (Store x v ∷ more) = eqb w x || storesWord w more
-storesWord w (Flush l ∷ more) = storesWord w more
-storesWord w (Fence ∷ more) = storesWord w more
+storesWord w = some (λ a. nvmTouches a w)
 
 abbrev pub flushesLine : ℕ → List NvmAct → Bool
-flushesLine l [] = false
-flushesLine l (Store x v ∷ more) = flushesLine l more
-flushesLine l (Flush k ∷ more) = eqb l k || flushesLine l more
-flushesLine l (Fence ∷ more) = flushesLine l more
+flushesLine l = some (λ a. nvmFlushes a l)
 
 abbrev pub writesBlock : ℕ → List DiskAct → Bool
-writesBlock b [] = false
-writesBlock b (Write x words ∷ more) = eqb b x || writesBlock b more
-writesBlock b (Sync ∷ more) = writesBlock b more
+writesBlock b = some (λ a. diskTouches a b)
 
--- stores within a memory of u units, no word twice
+-- nothing is touched twice
+abbrev pub Once : {A : Type 0} → (A → ℕ → Bool) → List A → Type 0
+Once touches [] = Unit {0}
+Once touches (a ∷ more) = ((i : ℕ) → touches a i ≡ true → some (λ x. touches x i) more ≡ false) × Once touches more
+
+-- a store or a flush within a memory of u units, a write within a disk of u blocks
+abbrev pub StoreWithin : ℕ → NvmAct → Type 0
+StoreWithin u (Store x v) = x < 32 * u
+StoreWithin u (Flush l) = ⊥
+StoreWithin u Fence = ⊥
+
+abbrev pub FlushWithin : ℕ → NvmAct → Type 0
+FlushWithin u (Store x v) = ⊥
+FlushWithin u (Flush l) = l < 4 * u
+FlushWithin u Fence = ⊥
+
+abbrev pub WriteWithin : ℕ → DiskAct → Type 0
+WriteWithin u (Write b words) = b < u
+WriteWithin u Sync = ⊥
+
+-- stores, no word twice; flushes; writes, no block twice
 abbrev pub Stores : ℕ → List NvmAct → Type 0
-Stores u [] = Unit {0}
-Stores u (Store x v ∷ more) = (x < 32 * u) × (storesWord x more ≡ false) × Stores u more
-Stores u (Flush l ∷ more) = ⊥
-Stores u (Fence ∷ more) = ⊥
+Stores u acts = Each (StoreWithin u) acts × Once nvmTouches acts
 
--- flushes within a memory of u units
 abbrev pub Flushes : ℕ → List NvmAct → Type 0
-Flushes u [] = Unit {0}
-Flushes u (Store x v ∷ more) = ⊥
-Flushes u (Flush l ∷ more) = (l < 4 * u) × Flushes u more
-Flushes u (Fence ∷ more) = ⊥
+Flushes u = Each (FlushWithin u)
 
--- writes within a disk of u blocks, no block twice
 abbrev pub Writes : ℕ → List DiskAct → Type 0
-Writes u [] = Unit {0}
-Writes u (Write b words ∷ more) = (b < u) × (writesBlock b more ≡ false) × Writes u more
-Writes u (Sync ∷ more) = ⊥
+Writes u acts = Each (WriteWithin u) acts × Once diskTouches acts
 
 -- stores, flushes of their lines and a fence are a phase
 abbrev pub Stores-are-a-phase : Type 0
@@ -88,3 +106,10 @@ Writes-are-a-phase =
 abbrev pub Sealing-is-a-phase : Type 0
 Sealing-is-a-phase =
     (u t v : ℕ) (c : ℕ → ℕ) → t < 32 * u → Phase nvmRules nvmKeeps u c (sealing t v) (λ w. cond (eqb w t) v (c w))
+
+-- words that no act stores are spared, and so are sectors of blocks that no act writes
+abbrev pub Unstored-is-spared : Type 0
+Unstored-is-spared = (S : ℕ → Bool) (acts : List NvmAct) → ((w : ℕ) → S w ≡ true → storesWord w acts ≡ false) → Spares nvmRules S acts
+
+abbrev pub Unwritten-is-spared : Type 0
+Unwritten-is-spared = (S : ℕ → Bool) (acts : List DiskAct) → ((s : ℕ) → S s ≡ true → writesBlock (s / 8) acts ≡ false) → Spares diskRules S acts

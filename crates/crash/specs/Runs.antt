@@ -1,6 +1,7 @@
 -- Runs of acts on a machine of any kind. `Step m a n` says that the act a was performed, `Refused m a e n` that it was refused
 -- with e. Assumes nothing.
 use mathlib.Core.Path.{_≡_}
+use mathlib.Core.Bool.{Bool, false, _||_}
 use mathlib.Core.List.{List, [], _∷_, _++_}
 use Prim.Native.Nat.{ℕ, zero, suc}
 use Rattle.std.specs.declared.result.Result.{Result}
@@ -40,3 +41,8 @@ eachOf f (suc n) = eachOf f n ++ f n
 abbrev pub Each : {A : Type 0} → (A → Type 0) → List A → Type 0
 Each P [] = Unit {0}
 Each P (a ∷ more) = P a × Each P more
+
+-- whether some of the acts passes the test
+abbrev pub some : {A : Type 0} → (A → Bool) → List A → Bool
+some test [] = false
+some test (a ∷ more) = test a || some test more
