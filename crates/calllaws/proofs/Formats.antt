@@ -16,8 +16,7 @@ use Rattle.crash.specs.Keeping.{nvmKeeps, diskKeeps, kept, Phase}
 use Rattle.crash.specs.Rows.{storing, flushing, inside, storesWord, flushesLine}
 use Rattle.crash.specs.Pair.{Pair, Act, PerformedPair, PairAccepts}
 use Rattle.crash.proofs.Runs.{performed-split}
-use Rattle.crash.proofs.Rows.{stores-word, stores-kept, flushing-line}
-use Rattle.crash.proofs.Joins.{stores-row, flushing-row}
+use Rattle.crash.proofs.Rows.{storing-word, storing-kept, storing-row, flushing-line, flushing-row}
 use Rattle.crash.proofs.Phases.{stores-are-a-phase, writes-are-a-phase, sealing-is-a-phase}
 use Rattle.ringlaws.specs.Layout.{Contents, groundMark, groundWord, recordsOf}
 use Rattle.ringlaws.specs.Newest.{laid}
@@ -49,19 +48,19 @@ formatted N B c = marked groundMark (headed N B (marked 0 c))
 
 module _ (N B : ℕ) where
   header-word : (w x : ℕ) → kept nvmKeeps (storing 1 (headerWords N B)) w x ≡ cond (inside 1 32 w) (getD (headerWords N B) (w - 1) 0) x
-  header-word w x = stores-kept 1 (λ i. getD (headerWords N B) i 0) 31 w x
+  header-word w x = storing-kept 1 (headerWords N B) w x
 
   -- each header word lies in one of the four lines that are flushed
   header-flushed : (w : ℕ) → storesWord w (storing 1 (headerWords N B)) ≡ true → flushesLine (w / 8) (flushing 0 4) ≡ true
   header-flushed w e =
-      let h : inside 1 (1 + 31) w ≡ true = sym (stores-word 1 (λ i. getD (headerWords N B) i 0) 31 w) ∙ e in
+      let h : inside 1 (1 + 31) w ≡ true = sym (storing-word 1 (headerWords N B) w) ∙ e in
       let k : inside 0 (0 + 4) (w / 8) ≡ true = grind (arith, tells) in
       flushing-line 0 4 (w / 8) ∙ k
 
   heading-phase : (c : Contents) → Phase nvmRules nvmKeeps (N + 1) c (storing 1 (headerWords N B) ++ (flushing 0 4 ++ Fence ∷ [])) (headed N B c)
   heading-phase c =
       stores-are-a-phase (N + 1) (storing 1 (headerWords N B)) (flushing 0 4) c
-      (stores-row (N + 1) 1 (λ i. getD (headerWords N B) i 0) 31 (omega arith)) (flushing-row (N + 1) 0 4 (omega arith)) header-flushed
+      (storing-row 1 (headerWords N B) (N + 1) (omega arith)) (flushing-row 0 (N + 1) 4 (omega arith)) header-flushed
 
   zeroing-phase : (e : ℕ → List ℕ) → Phase diskRules diskKeeps B e (eachOf (λ b. Write b (replicate 512 0) ∷ []) B ++ Sync ∷ []) (zeroed B e)
   zeroing-phase e = writes-are-a-phase B (eachOf (λ b. Write b (replicate 512 0) ∷ []) B) e (writing-fits (λ b. true) (λ b. replicate 512 0) B B (le-refl B))
