@@ -94,12 +94,12 @@ put [] r u = record { number = r; unit = u } ∷ []
 put (s ∷ t) r u = cond (eqb r (s .number)) (record { number = r; unit = u } ∷ t) (s ∷ put t r u)
 
 -- record r is set already, or fewer than 30 others are
-abbrev pub hasRoom : Transaction → ℕ → Bool
-hasRoom t r = member r (numbersOf t) || ltb (length t) countLimit
+abbrev pub mayPut : Transaction → ℕ → Bool
+mayPut t r = member r (numbersOf t) || ltb (length t) countLimit
 
 -- what is refused of setting record r in a transaction on a disk of B blocks
 abbrev pub setRefusal : ℕ → Transaction → ℕ → Option Refusal
-setRefusal B t r = cond (ltb r (recordsOf B)) (cond (hasRoom t r) None (Some TooManyRecords)) (Some NoSuchRecord)
+setRefusal B t r = cond (ltb r (recordsOf B)) (cond (mayPut t r) None (Some TooManyRecords)) (Some NoSuchRecord)
 
 -- there is no room in a ring of N places for a transaction: one place always stays free
 abbrev pub isFull : ℕ → Contents → Transaction → Bool
