@@ -3,7 +3,7 @@ use mathlib.Core.Path.{_≡_, refl, sym, ap, subst, _∙_}
 use mathlib.Core.Bool.{Bool, true, false, cond, _&&_}
 use mathlib.Core.List.{List, [], _∷_, _++_, map}
 use mathlib.Core.Logic.{_⊎_, inl, inr}
-use Prim.Native.Nat.{ℕ, _+_, _*_, _/_, _%_, _<_}
+use Prim.Native.Nat.{ℕ, _+_, _/_, _%_, _<_}
 use native.Mathlib.Omega.{arith}
 use native.Mathlib.Nat.{le-refl}
 use lib.Dec.{eqb, ltb}
@@ -15,12 +15,11 @@ use Rattle.crash.specs.Runs.{done}
 use Rattle.crash.specs.Acts.{Blend}
 use Rattle.crash.specs.Keeping.{nvmKeeps, diskKeeps, kept, Phase}
 use Rattle.crash.specs.Rows.{sealing}
-use Rattle.crash.specs.Pair.{Pair, Act, onNvm, onDisk, PerformedPair, CutPair, PairRestarted, PairRests, PairAccepts}
-use Rattle.crash.specs.Phases.{Returns}
+use Rattle.crash.specs.Pair.{Pair, Act, onNvm, onDisk, PerformedPair, CutPair, PairRestarted}
 use Rattle.crash.proofs.Runs.{stopped-split, stopped-none}
 use Rattle.crash.proofs.Phases.{writes-are-a-phase, sealing-is-a-phase}
 use Rattle.crash.proofs.PairPhases.{nvm-phase-blends, disk-phase-blends}
-use Rattle.ringlaws.specs.Layout.{Contents, headWord, headOf, tailOf, recordsOf, homeBlock}
+use Rattle.ringlaws.specs.Layout.{Contents, headWord, tailOf, recordsOf, homeBlock}
 use Rattle.ringlaws.specs.TxnInfo.{Transaction}
 use Rattle.ringlaws.specs.Spells.{AllFair}
 use Rattle.ringlaws.specs.Newest.{laid}
@@ -32,7 +31,7 @@ use Rattle.calllaws.specs.CheckpointLaw.{KeepsTheTable, Checkpoints-keep-the-t
 use Rattle.calllaws.proofs.Overlay.{laid-long, laid-again, unnamed-laid}
 use Rattle.calllaws.proofs.Homes.{home-long, home-near, home-written}
 use Rattle.calllaws.proofs.Writes.{writing-fits, writing-kept}
-use Rattle.calllaws.proofs.Stages.{Stage, stage-then, stage-whole, stage-accepted, nvm-stage, disk-stage, SameSizes, performed-sizes, restarted-sizes, sizes-then, ready-again}
+use Rattle.calllaws.proofs.Stages.{Stage, stage-then, stage-whole, stage-accepted, nvm-stage, disk-stage, performed-sizes, restarted-sizes, sizes-then, ready-again}
 
 -- the sectors after the homes were written, and the words after the head has moved up to the tail
 abbrev pub homesWritten : ℕ → List Transaction → (ℕ → List ℕ) → ℕ → List ℕ

@@ -1,30 +1,30 @@
 -- A format, performed whole on devices with any contents, leaves an empty ring and zero units. Assumes nothing.
-use mathlib.Core.Path.{_≡_, refl, sym, ap, subst, _∙_}
-use mathlib.Core.Bool.{true, false, cond, _&&_}
-use mathlib.Core.List.{List, [], _∷_, _++_, map}
-use Prim.Native.Nat.{ℕ, _+_, _-_, _*_, _/_, _%_, _<_, _≤_}
+use mathlib.Core.Path.{_≡_, refl, sym, ap, _∙_}
+use mathlib.Core.Bool.{true, cond, _&&_}
+use mathlib.Core.List.{List, [], _∷_, _++_}
+use Prim.Native.Nat.{ℕ, _+_, _-_, _/_, _%_, _<_, _≤_}
 use native.Mathlib.Omega.{arith}
 use native.Mathlib.Nat.{le-refl}
 use lib.Dec.{eqb, ltb}
-use lib.ListN.{length, getD, replicate}
+use lib.ListN.{getD, replicate}
 use Rattle.std.proofs.shelf.Ways.{tells}
 use Rattle.std.proofs.shelf.Lists.{length-replicate}
-use Rattle.device.specs.Words.{Store, Fence, wordsOf, nvmRules}
+use Rattle.device.specs.Words.{Fence, wordsOf, nvmRules}
 use Rattle.device.specs.Sectors.{Write, Sync, sectorOf, sectorsOf, diskRules}
 use Rattle.crash.specs.Runs.{eachOf}
 use Rattle.crash.specs.Keeping.{nvmKeeps, diskKeeps, kept, Phase}
 use Rattle.crash.specs.Rows.{storing, flushing, inside, storesWord, flushesLine}
-use Rattle.crash.specs.Pair.{Pair, Act, PerformedPair, PairAccepts}
+use Rattle.crash.specs.Pair.{Pair, Act, PerformedPair}
 use Rattle.crash.proofs.Runs.{performed-split}
 use Rattle.crash.proofs.Rows.{storing-word, storing-kept, storing-row, flushing-line, flushing-row}
 use Rattle.crash.proofs.Phases.{stores-are-a-phase, writes-are-a-phase, sealing-is-a-phase}
 use Rattle.ringlaws.specs.Layout.{Contents, groundMark, groundWord, recordsOf}
 use Rattle.ringlaws.specs.Newest.{laid}
 use Rattle.ringlaws.proofs.Append.{empty-spells-nothing}
-use Rattle.calls.specs.Table.{homeUnit, table, tableBlock, zeroUnit}
+use Rattle.calls.specs.Table.{homeUnit, zeroUnit}
 use Rattle.calls.specs.Acts.{settlingBoth, sealingWord, zeroing, headerWords, heading, formatActs}
-use Rattle.calllaws.specs.Holds.{Ready, Holds, Keeps}
-use Rattle.calllaws.specs.FormatLaw.{AnyContents, Formats-make-an-empty-store}
+use Rattle.calllaws.specs.Holds.{Holds, Keeps}
+use Rattle.calllaws.specs.FormatLaw.{Formats-make-an-empty-store}
 use Rattle.calllaws.proofs.Homes.{home-written, zero-block}
 use Rattle.calllaws.proofs.Writes.{writing-fits, writing-kept}
 use Rattle.calllaws.proofs.Stages.{Stage, stage-then, stage-whole, nvm-stage, disk-stage, performed-sizes}

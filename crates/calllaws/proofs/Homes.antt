@@ -1,11 +1,10 @@
 -- The homes of the records: each lies within one sector, and in a block as the table has it there is the table's unit. Assumes
 -- nothing.
-use mathlib.Core.Path.{_≡_, refl, sym, ap, _∙_}
-use mathlib.Core.List.{List, map}
+use mathlib.Core.Path.{_≡_, sym, ap, _∙_}
+use mathlib.Core.List.{List}
 use Prim.Native.Nat.{ℕ, _+_, _*_, _/_, _%_, _<_}
 use native.Mathlib.Omega.{arith}
 use lib.ListN.{length, getD, replicate}
-use Rattle.std.specs.Iters.{counting}
 use Rattle.std.proofs.shelf.Lists.{length-replicate, getD-replicate}
 use Rattle.std.proofs.shelf.Counted.{length-map-counting, getD-map-counting, fill-by-all}
 use Rattle.device.specs.Sectors.{sectorOf, diskWord}

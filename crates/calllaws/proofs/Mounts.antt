@@ -1,17 +1,17 @@
 -- A mount settles everything and checkpoints: performed whole or cut, it keeps the table. Assumes nothing.
-use mathlib.Core.Path.{_≡_, refl, sym, ap, subst, _∙_}
-use mathlib.Core.List.{List, [], _∷_, _++_}
+use mathlib.Core.Path.{_≡_, sym, ap, subst}
+use mathlib.Core.List.{List, [], _++_}
 use mathlib.Core.Logic.{inl, inr}
 use Prim.Native.Nat.{ℕ, _+_}
 use Rattle.device.specs.Pieces.{presentValue, isUnsettled}
 use Rattle.device.specs.Words.{wordsOf}
 use Rattle.device.specs.Sectors.{sectorsOf}
-use Rattle.crash.specs.Pair.{Pair, Act, PerformedPair, CutPair, PairRestarted, PairRests, PairAccepts}
+use Rattle.crash.specs.Pair.{Pair, PerformedPair, CutPair, PairRestarted, PairRests, PairAccepts}
 use Rattle.crash.proofs.Runs.{performed-split, stopped-split}
 use Rattle.ringlaws.specs.Layout.{Contents}
 use Rattle.ringlaws.specs.TxnInfo.{Transaction}
 use Rattle.calls.specs.Acts.{settlingBoth, checkpointActs}
-use Rattle.calllaws.specs.Holds.{Ready, Holds, Keeps}
+use Rattle.calllaws.specs.Holds.{Ready, Keeps}
 use Rattle.calllaws.specs.CheckpointLaw.{KeepsTheTable, Mounts-keep-the-table}
 use Rattle.calllaws.specs.FormatLaw.{AnyContents}
 use Rattle.calllaws.proofs.Stages.{Stage, performed-sizes, restarted-sizes, ready-again}

@@ -1,8 +1,8 @@
 -- Acts that take both devices from settled contents to settled contents, one list after another, and what stays of the devices
 -- on the way. Assumes nothing.
-use mathlib.Core.Path.{_≡_, refl, sym, ap, subst, _∙_}
-use mathlib.Core.List.{List, [], _∷_, _++_, map}
-use Prim.Native.Nat.{ℕ, _+_}
+use mathlib.Core.Path.{_≡_, refl, sym, subst, _∙_}
+use mathlib.Core.List.{List, _++_, map}
+use Prim.Native.Nat.{ℕ}
 use Rattle.device.specs.Pieces.{Piece, settled}
 use Rattle.device.specs.Devices.{Rules}
 use Rattle.device.specs.Words.{NvmAct, nvmRules}
@@ -11,7 +11,7 @@ use Rattle.crash.specs.Acts.{made, Leads, Accepts}
 use Rattle.crash.specs.Keeping.{nvmKeeps, diskKeeps, Phase}
 use Rattle.crash.specs.Pair.{Pair, Act, onNvm, onDisk, PerformedPair, CutPair, PairRestarted, PairRests, PairAccepts, nvmPart, diskPart}
 use Rattle.crash.proofs.Tame.{nvm-is-tame, disk-is-tame}
-use Rattle.crash.proofs.Follow.{made-append, leads-append, accepts-append, run-size, begun-size, phase-settles, accepts-settled}
+use Rattle.crash.proofs.Follow.{leads-append, accepts-append, run-size, begun-size, phase-settles, accepts-settled}
 use Rattle.crash.proofs.Pairs.{runs-part, cuts-part, nvm-append, disk-append, nvm-own, disk-own, nvm-none, disk-none}
 use Rattle.ringlaws.specs.Layout.{Contents}
 use Rattle.calllaws.specs.Holds.{Ready}
