@@ -1,92 +1,38 @@
 -- A checkpoint, performed whole or cut, keeps the table. Assumes nothing.
 use mathlib.Core.Path.{_≡_, refl, sym, ap, subst, _∙_}
-use mathlib.Core.Bool.{Bool, true, false, cond, _&&_}
+use mathlib.Core.Bool.{Bool, true, false, cond}
 use mathlib.Core.List.{List, [], _∷_, _++_, map}
 use mathlib.Core.Logic.{_⊎_, inl, inr}
-use Prim.Native.Nat.{ℕ, _+_, _/_, _%_, _<_}
+use Prim.Native.Nat.{ℕ, _+_}
 use native.Mathlib.Omega.{arith}
 use native.Mathlib.Nat.{le-refl}
-use lib.Dec.{eqb, ltb}
-use lib.ListN.{length}
+use lib.Dec.{eqb}
 use Rattle.std.proofs.shelf.Ways.{tells}
 use Rattle.device.specs.Words.{wordsOf, nvmRules}
-use Rattle.device.specs.Sectors.{Sync, sectorOf, sectorsOf, diskRules}
+use Rattle.device.specs.Sectors.{Sync, sectorsOf, diskRules}
 use Rattle.crash.specs.Runs.{done}
 use Rattle.crash.specs.Acts.{Blend}
-use Rattle.crash.specs.Keeping.{nvmKeeps, diskKeeps, kept, Phase}
+use Rattle.crash.specs.Keeping.{nvmKeeps, diskKeeps, Phase}
 use Rattle.crash.specs.Rows.{sealing}
 use Rattle.crash.specs.Pair.{Pair, Act, onNvm, onDisk, PerformedPair, CutPair, PairRestarted}
 use Rattle.crash.proofs.Runs.{stopped-split, stopped-none}
 use Rattle.crash.proofs.Phases.{writes-are-a-phase, sealing-is-a-phase}
 use Rattle.crash.proofs.PairPhases.{nvm-phase-blends, disk-phase-blends}
-use Rattle.ringlaws.specs.Layout.{Contents, headWord, tailOf, recordsOf, homeBlock}
+use Rattle.ringlaws.specs.Layout.{Contents, headWord, tailOf}
 use Rattle.ringlaws.specs.TxnInfo.{Transaction}
-use Rattle.ringlaws.specs.Spells.{AllFair}
 use Rattle.ringlaws.specs.Newest.{laid}
 use Rattle.ringlaws.proofs.Append.{empty-spells-nothing}
-use Rattle.calls.specs.Table.{homeUnit, table, tableBlock, isNamed}
+use Rattle.calls.specs.Table.{table, tableBlock, isNamed}
 use Rattle.calls.specs.Acts.{writingHomes, checkpointActs}
 use Rattle.calllaws.specs.Holds.{Ready, Holds, Keeps}
 use Rattle.calllaws.specs.CheckpointLaw.{KeepsTheTable, Checkpoints-keep-the-table}
-use Rattle.calllaws.proofs.Overlay.{laid-long, laid-again, unnamed-laid}
-use Rattle.calllaws.proofs.Homes.{home-long, home-near, home-written}
-use Rattle.calllaws.proofs.Writes.{writing-fits, writing-kept}
+use Rattle.calllaws.proofs.Writes.{writing-fits}
+use Rattle.calllaws.proofs.Written.{homesWritten, blended-table, written-table}
 use Rattle.calllaws.proofs.Stages.{Stage, stage-then, stage-whole, stage-accepted, nvm-stage, disk-stage, performed-sizes, restarted-sizes, sizes-then, ready-again}
 
--- the sectors after the homes were written, and the words after the head has moved up to the tail
-abbrev pub homesWritten : ℕ → List Transaction → (ℕ → List ℕ) → ℕ → List ℕ
-homesWritten B ts e s = kept diskKeeps (writingHomes B ts e) s (e s)
-
+-- the words after the head has moved up to the tail
 abbrev pub headMoved : Contents → Contents
 headMoved c w = cond (eqb w headWord) (tailOf c) (c w)
-
-module _ (B : ℕ) (ts : List Transaction) (e : ℕ → List ℕ) (fair : AllFair B ts) where
-  table-long : (r : ℕ) → length (table ts e r) ≡ 32
-  table-long r = laid-long B ts (homeUnit e) fair (home-long e) r
-
-  -- a sector after the writes, by whether its block is written
-  new-sector : (r : ℕ) (t : Bool) → ltb (homeBlock r) B && isNamed ts (homeBlock r) ≡ t
-      → homesWritten B ts e (r / 2) ≡ cond t (sectorOf (tableBlock (table ts e) (homeBlock r)) (r / 2 % 8)) (e (r / 2))
-  new-sector r t h =
-      let q : r / 2 / 8 ≡ r / 16 = omega arith in
-      writing-kept (isNamed ts) (tableBlock (table ts e)) B (r / 2) (e (r / 2))
-      ∙ ap (λ b. cond (ltb b B && isNamed ts b) (sectorOf (tableBlock (table ts e) b) (r / 2 % 8)) (e (r / 2))) q
-      ∙ ap (λ x. cond x (sectorOf (tableBlock (table ts e) (homeBlock r)) (r / 2 % 8)) (e (r / 2))) h
-
-  -- each home is the old one, or the table's unit
-  new-home : (r : ℕ) (t : Bool) → ltb (homeBlock r) B && isNamed ts (homeBlock r) ≡ t
-      → homeUnit (homesWritten B ts e) r ≡ cond t (table ts e r) (homeUnit e r)
-  new-home r true h = home-written (table ts e) (homesWritten B ts e) r (table-long r) (new-sector r true h)
-  new-home r false h = home-near e (homesWritten B ts e) r (new-sector r false h)
-
-  -- on a disk whose sectors are the old or the new ones the ring gives the same table
-  pub blended-table : (x : ℕ → List ℕ) → Blend e (homesWritten B ts e) x → (r : ℕ) → table ts x r ≡ table ts e r
-  blended-table x blend r = laid-again ts (homeUnit e) (homeUnit x) r (by-sector (blend (r / 2)))
-    where
-      by-test : (t : Bool) → ltb (homeBlock r) B && isNamed ts (homeBlock r) ≡ t
-          → (homeUnit (homesWritten B ts e) r ≡ homeUnit e r) ⊎ (homeUnit (homesWritten B ts e) r ≡ table ts e r)
-      by-test true h = inr (new-home r true h)
-      by-test false h = inl (new-home r false h)
-
-      moved : {u v : List ℕ} → homeUnit x r ≡ homeUnit (homesWritten B ts e) r
-          → (homeUnit (homesWritten B ts e) r ≡ u) ⊎ (homeUnit (homesWritten B ts e) r ≡ v) → (homeUnit x r ≡ u) ⊎ (homeUnit x r ≡ v)
-      moved q (inl h) = inl (q ∙ h)
-      moved q (inr h) = inr (q ∙ h)
-
-      by-sector : (x (r / 2) ≡ e (r / 2)) ⊎ (x (r / 2) ≡ homesWritten B ts e (r / 2)) → (homeUnit x r ≡ homeUnit e r) ⊎ (homeUnit x r ≡ table ts e r)
-      by-sector (inl h) = inl (home-near e x r h)
-      by-sector (inr h) = moved (home-near (homesWritten B ts e) x r h) (by-test (ltb (homeBlock r) B && isNamed ts (homeBlock r)) refl)
-
-  -- the disk alone has the table after the writes
-  pub written-table : (r : ℕ) → r < recordsOf B → homeUnit (homesWritten B ts e) r ≡ table ts e r
-  written-table r lt = by-name (isNamed ts (homeBlock r)) refl
-    where
-      inside : ltb (homeBlock r) B ≡ true
-      inside = grind (arith, tells)
-
-      by-name : (t : Bool) → isNamed ts (homeBlock r) ≡ t → homeUnit (homesWritten B ts e) r ≡ table ts e r
-      by-name true h = new-home r true (ap (λ t. t && isNamed ts (homeBlock r)) inside ∙ h)
-      by-name false h = new-home r false (ap (λ t. t && isNamed ts (homeBlock r)) inside ∙ h) ∙ sym (unnamed-laid ts (homeUnit e) r h)
 
 -- what the contents hold, on another disk that the ring gives the same table on, and after the head has moved
 holds-on : {N B : ℕ} {c : Contents} {e : ℕ → List ℕ} {ts : List Transaction} {units : ℕ → List ℕ} (x : ℕ → List ℕ) → Holds N B c e ts units

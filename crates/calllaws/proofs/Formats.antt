@@ -30,7 +30,7 @@ use Rattle.calllaws.proofs.Writes.{writing-fits, writing-kept}
 use Rattle.calllaws.proofs.Stages.{Stage, stage-then, stage-whole, nvm-stage, disk-stage, performed-sizes}
 use Rattle.calllaws.proofs.Settling.{settling-settles-both, settling-then}
 
--- a word of the ground mark's place
+-- the words with v in the place of the ground mark
 abbrev marked : ℕ → Contents → Contents
 marked v c w = cond (eqb w groundWord) v (c w)
 

@@ -1,6 +1,7 @@
 pub mod Overlay
 pub mod Homes
 pub mod Writes
+pub mod Written
 pub mod Stages
 pub mod Checkpoints
 pub mod Settling
