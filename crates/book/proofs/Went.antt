@@ -176,11 +176,12 @@ module _ {R : Type 0} (kind : Kind R) (lawful : Lawful kind) (parts : Runs-part)
           → ((s′ ≡ Unmounted → ⊥) → ts ≡ ly) → Good kind B l′ → Owed call n a
       quietly s′ l′ a a₀ n call w right book tally lying′ good′ =
           let same : n .devices ≡ d = performed-none (w .acts) in
-          subst (Owed call n) (sym (w .says))
-          (right,
-          subst (λ (b : Book). Follows kind N B n b (tallyCall kind (tallied l cs ly) call a₀)) (sym book)
-          (subst (Follows kind N B n (live units s′ l′)) (sym tally)
-          (follow n units s′ l′ ts cs ly (ap isDark same ∙ lit) (w .state) (w .list) (subst (λ (p : Pair). Keeps N B p ts units) (sym same) k) lying′ good′ readable commits)))
+          subst (Owed call n) (sym (w .says)) (
+            right,
+            subst (λ (b : Book). Follows kind N B n b (tallyCall kind (tallied l cs ly) call a₀)) (sym book)
+                (subst (Follows kind N B n (live units s′ l′)) (sym tally)
+                (follow n units s′ l′ ts cs ly (ap isDark same ∙ lit) (w .state) (w .list) (subst (λ (p : Pair). Keeps N B p ts units) (sym same) k) lying′ good′ readable commits)),
+          )
 
       -- a refusal
       refuses : (a : Answer R) (n : Machine) (call : Call R) (e : Refusal) → eqb (numberOf e) 5 ≡ false
@@ -215,7 +216,7 @@ module _ {R : Type 0} (kind : Kind R) (lawful : Lawful kind) (parts : Runs-part)
               refuses a n (Read r) NoSuchRecord refl w (right (Refused NoSuchRecord) (sym (cond-false (ltb r (recordsOf (ownBlocks d))) (readUnit kind (lay l units r)) (Refused NoSuchRecord) h)))
           go true h w =
               let z : tableOf (machine d s l) r ≡ units r =
-                  ap (λ (x : List Transaction). table x (ownSectors d) r) (ring-is d ts units o) ∙ o .holds .same r (ltb-true r (recordsOf (ownBlocks d)) h) in
+              ap (λ (x : List Transaction). table x (ownSectors d) r) (ring-is d ts units o) ∙ o .holds .same r (ltb-true r (recordsOf (ownBlocks d)) h) in
               let y : readUnit kind (lay l (tableOf (machine d s l)) r) ≡ readUnit kind (lay l units r) = ap (λ (v : List ℕ). readUnit kind (valueOr (settingOf l r) v)) z in
               quietly s l a (readUnit kind (lay l (tableOf (machine d s l)) r)) n (Read r) w
               (right (readUnit kind (lay l (tableOf (machine d s l)) r)) (y ∙ sym (cond-true (ltb r (recordsOf (ownBlocks d))) (readUnit kind (lay l units r)) (Refused NoSuchRecord) h)))
@@ -231,14 +232,15 @@ module _ {R : Type 0} (kind : Kind R) (lawful : Lawful kind) (parts : Runs-part)
           → tallyCall kind (tallied l cs ly) call a₀ ≡ tallied l cs []
           → Owed call n a
       empties acts s′ a a₀ n call law w right book tally =
-          subst (Owed call n) (sym (w .says))
-          (right,
-          subst (λ (b : Book). Follows kind N B n b (tallyCall kind (tallied l cs ly) call a₀)) (sym book)
-          (subst (Follows kind N B n (live units s′ l)) (sym tally)
-          (follow n units s′ l [] cs [] (stays-lit parts acts d (n .devices) lit (w .acts)) (w .state) (w .list)
-            (subst (λ (x : ℕ). Keeps x B (n .devices) [] units) (places-is N B d ts units k)
-            (subst (λ (y : ℕ). Keeps (ownPlaces d) y (n .devices) [] units) (blocks-is N B d ts units k) (law .whole (n .devices) (w .acts))))
-            (λ h. refl) good readable commits)))
+          subst (Owed call n) (sym (w .says)) (
+            right,
+            subst (λ (b : Book). Follows kind N B n b (tallyCall kind (tallied l cs ly) call a₀)) (sym book)
+                (subst (Follows kind N B n (live units s′ l)) (sym tally)
+                (follow n units s′ l [] cs [] (stays-lit parts acts d (n .devices) lit (w .acts)) (w .state) (w .list)
+                (subst (λ (x : ℕ). Keeps x B (n .devices) [] units) (places-is N B d ts units k)
+                (subst (λ (y : ℕ). Keeps (ownPlaces d) y (n .devices) [] units) (blocks-is N B d ts units k) (law .whole (n .devices) (w .acts))))
+                (λ h. refl) good readable commits)),
+          )
 
       -- a checkpoint, where the store is mounted, and its answer
       checkpoints-to : Checkpoints-keep-the-table → (s′ : State) (a a₀ : Answer R) (n : Machine) (call : Call R)
@@ -273,8 +275,8 @@ module _ {R : Type 0} (kind : Kind R) (lawful : Lawful kind) (parts : Runs-part)
       unrefused =
           let h = o .holds in
           cond-true (eqb (ownWords d groundWord) groundMark)
-            (cond (fitHeader (ownPlaces d) (ownBlocks d) (ownWords d)) (damage (stepBack (ownPlaces d) (ownBlocks d) (ownWords d) (headOf (ownWords d)) (tailOf (ownWords d)))) (Some BadHeader))
-            (Some NoGroundMark) (eq-eqb (ownWords d groundWord) groundMark (h .mark))
+          (cond (fitHeader (ownPlaces d) (ownBlocks d) (ownWords d)) (damage (stepBack (ownPlaces d) (ownBlocks d) (ownWords d) (headOf (ownWords d)) (tailOf (ownWords d)))) (Some BadHeader))
+          (Some NoGroundMark) (eq-eqb (ownWords d groundWord) groundMark (h .mark))
           ∙ cond-true (fitHeader (ownPlaces d) (ownBlocks d) (ownWords d)) (damage (stepBack (ownPlaces d) (ownBlocks d) (ownWords d) (headOf (ownWords d)) (tailOf (ownWords d)))) (Some BadHeader) header
           ∙ ap damage (sound-exactly-if-spelled (ownPlaces d) (ownBlocks d) (ownWords d) (headOf (ownWords d)) (tailOf (ownWords d)) (h .head) (h .tail) ts .1 (h .spells))
 
@@ -293,17 +295,17 @@ module _ {R : Type 0} (kind : Kind R) (lawful : Lawful kind) (parts : Runs-part)
           cond-true (fitSizes (d .nvm .size) (ownBlocks d)) (mountBy kind (machine d s l) (mountRefusal (ownPlaces d) (ownBlocks d) (ownWords d))) (refusing (machine d s l) BadSize) fits
           ∙ ap (mountBy kind (machine d s l)) unrefused
           ∙ ap (λ (u : ℕ). record {
-              acts = settlingBoth u ++ checkpointActs (ownBlocks d) (ownWords d) (ringOf (ownPlaces d) (ownBlocks d) (ownWords d)) (ownSectors d);
-              answer = Blocks (namedBlocks (ownBlocks d) (ringOf (ownPlaces d) (ownBlocks d) (ownWords d)));
-              state = Idle;
-              list = l;
-            }) size
+            acts = settlingBoth u ++ checkpointActs (ownBlocks d) (ownWords d) (ringOf (ownPlaces d) (ownBlocks d) (ownWords d)) (ownSectors d);
+            answer = Blocks (namedBlocks (ownBlocks d) (ringOf (ownPlaces d) (ownBlocks d) (ownWords d)));
+            state = Idle;
+            list = l;
+          }) size
           ∙ ap (λ (x : List Transaction). record {
-              acts = settlingBoth (ownPlaces d + 1) ++ checkpointActs (ownBlocks d) (ownWords d) x (ownSectors d);
-              answer = Blocks (namedBlocks (ownBlocks d) x);
-              state = Idle;
-              list = l;
-            }) (ring-is d ts units o)
+            acts = settlingBoth (ownPlaces d + 1) ++ checkpointActs (ownBlocks d) (ownWords d) x (ownSectors d);
+            answer = Blocks (namedBlocks (ownBlocks d) x);
+            state = Idle;
+            list = l;
+          }) (ring-is d ts units o)
 
       used-here : (s ≡ Unmounted → ⊥) → used (ownPlaces d) (ownWords d) ≡ placesTaken ly
       used-here mounted = used-is (ownPlaces d) (ownBlocks d) (ownWords d) ts (o .holds .spells) ∙ ap placesTaken (lying mounted)
@@ -322,13 +324,14 @@ module _ {R : Type 0} (kind : Kind R) (lawful : Lawful kind) (parts : Runs-part)
           → (us : List Transaction) × Keeps N B (n .devices) us (lay t units) × (us ≡ andNonempty ly t)
       committed law mounted n [] g f p =
           (ts, subst (λ (q : Pair). Keeps N B q ts (lay [] units)) (sym (performed-none p)) (subst (Keeps N B d ts) (sym (lay-none units)) k), lying mounted)
-      committed law mounted n (x ∷ t) g f p =
-          (ts ++ (x ∷ t) ∷ [],
-          subst (λ (y : ℕ). Keeps y B (n .devices) (ts ++ (x ∷ t) ∷ []) (lay (x ∷ t) units)) (places-is N B d ts units k)
-          (subst (λ (y : ℕ). Keeps (ownPlaces d) y (n .devices) (ts ++ (x ∷ t) ∷ []) (lay (x ∷ t) units)) (blocks-is N B d ts units k)
-          (law (ownPlaces d) (ownBlocks d) (ownWords d) (ownSectors d) ts units (x ∷ t) d (o .ready) (o .holds)
+      committed law mounted n (x ∷ t) g f p = (
+        ts ++ (x ∷ t) ∷ [],
+        subst (λ (y : ℕ). Keeps y B (n .devices) (ts ++ (x ∷ t) ∷ []) (lay (x ∷ t) units)) (places-is N B d ts units k)
+            (subst (λ (y : ℕ). Keeps (ownPlaces d) y (n .devices) (ts ++ (x ∷ t) ∷ []) (lay (x ∷ t) units)) (blocks-is N B d ts units k)
+            (law (ownPlaces d) (ownBlocks d) (ownWords d) (ownSectors d) ts units (x ∷ t) d (o .ready) (o .holds)
             (subst (λ (b : ℕ). Fair b (x ∷ t)) (sym (blocks-is N B d ts units k)) (good-fair kind lawful B x t g)) f .whole (n .devices) p)),
-          ap (λ (us : List Transaction). us ++ (x ∷ t) ∷ []) (lying mounted))
+        ap (λ (us : List Transaction). us ++ (x ∷ t) ∷ []) (lying mounted),
+      )
 
       -- a commit, where a transaction is open
       commits-to : Commits-are-atomic → (s ≡ Unmounted → ⊥) → (a : Answer R) (n : Machine)
@@ -338,6 +341,7 @@ module _ {R : Type 0} (kind : Kind R) (lawful : Lawful kind) (parts : Runs-part)
         where
           a₁ : Answer R
           a₁ = Used (used (ownPlaces d) (ownWords d) + added l)
+
           go : (x : Bool) → isFull (ownPlaces d) (ownWords d) l ≡ x
               → Went (cond x (refusing (machine d s l) RingFull) (record { acts = commitActs (ownPlaces d) (ownWords d) l; answer = Used (used (ownPlaces d) (ownWords d) + added l); state = Idle; list = [] })) (machine d s l) a n
               → Owed Commit n a
@@ -346,13 +350,14 @@ module _ {R : Type 0} (kind : Kind R) (lawful : Lawful kind) (parts : Runs-part)
               (right (Refused RingFull) (sym (cond-true (noRoom (ownPlaces d) ly l) (Refused RingFull) (Used (placesTaken ly + added l)) (sym (full-is mounted l) ∙ h))))
           go false h w =
               let c = committed law mounted n l good h (w .acts) in
-              subst (Owed Commit n) (sym (w .says))
-              (right (Used (used (ownPlaces d) (ownWords d) + added l))
-                (ap (λ (u : ℕ). Used (u + added l)) (used-here mounted)
-                ∙ sym (cond-false (noRoom (ownPlaces d) ly l) (Refused RingFull) (Used (placesTaken ly + added l)) (sym (full-is mounted l) ∙ h))),
-              follow n (lay l units) Idle [] (c .0) (cs ++ (whole, l) ∷ []) (andNonempty ly l)
-                (stays-lit parts (commitActs (ownPlaces d) (ownWords d) l) d (n .devices) lit (w .acts)) (w .state) (w .list) (c .1) (λ e. c .2) (good-none kind B)
-                (lay-readable kind lawful l units (good .readable) readable) (commit-takes B whole l cs units commits))
+              subst (Owed Commit n) (sym (w .says)) (
+                right (Used (used (ownPlaces d) (ownWords d) + added l))
+                    (ap (λ (u : ℕ). Used (u + added l)) (used-here mounted)
+                    ∙ sym (cond-false (noRoom (ownPlaces d) ly l) (Refused RingFull) (Used (placesTaken ly + added l)) (sym (full-is mounted l) ∙ h))),
+                follow n (lay l units) Idle [] (c .0) (cs ++ (whole, l) ∷ []) (andNonempty ly l)
+                    (stays-lit parts (commitActs (ownPlaces d) (ownWords d) l) d (n .devices) lit (w .acts)) (w .state) (w .list) (c .1) (λ e. c .2) (good-none kind B)
+                    (lay-readable kind lawful l units (good .readable) readable) (commit-takes B whole l cs units commits),
+              )
 
     -- every call that goes by its plan, by state and call
     module _ (commit-law : Commits-are-atomic) (checkpoint-law : Checkpoints-keep-the-table) (mount-law : Mounts-keep-the-table) (l : Transaction) (cs : List (Fate × Transaction)) (ly : List Transaction) (good : Good kind B l) (commits : WholeAndInOrder B cs units) where

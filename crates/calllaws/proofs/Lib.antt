@@ -2,3 +2,12 @@ pub mod CommitPlaces
 pub mod CommitActs
 pub mod CommitPhases
 pub mod Commits
+pub mod Overlay
+pub mod Homes
+pub mod Writes
+pub mod Written
+pub mod Stages
+pub mod Checkpoints
+pub mod Settling
+pub mod Mounts
+pub mod Formats

@@ -34,7 +34,7 @@ headerWords N B = N ∷ B ∷ replicate 29 0
 abbrev pub heading : ℕ → ℕ → List Act
 heading N B = map onNvm (storing 1 (headerWords N B) ++ (flushing 0 4 ++ Fence ∷ []))
 
--- Format: settle everything; the ground mark goes first and comes last, so that a cut leaves no store.
+-- Format: settle everything; the ground mark goes first and comes last, so that a cut after the first fence leaves no store or the finished one.
 abbrev pub formatActs : ℕ → ℕ → List Act
 formatActs N B =
     settlingBoth (N + 1) ++ (sealingWord groundWord 0 ++ (zeroing B ++ (heading N B ++ sealingWord groundWord groundMark)))
