@@ -17,7 +17,7 @@ use Rattle.refusal.specs.Numbers.{numberOf}
 use Rattle.device.specs.Words.{nvmRules}
 use Rattle.device.specs.Sectors.{diskRules}
 use Rattle.crash.specs.Runs.{Performed, done, then}
-use Rattle.crash.specs.Pair.{Pair, Act, isDark, PerformedPair}
+use Rattle.crash.specs.Pair.{Pair, Act, isDark, PerformedPair, settlingBoth}
 use Rattle.crash.specs.Phases.{Runs-part}
 use Rattle.crash.proofs.Follow.{run-power}
 use Rattle.ringlaws.specs.declared.setting.Setting.{Setting}
@@ -35,7 +35,7 @@ use Rattle.calls.specs.declared.call.Call.the-variants.{Format, Mount, Begin, S
 use Rattle.calls.specs.declared.answer.Answer.{Answer}
 use Rattle.calls.specs.declared.answer.Answer.the-variants.{Refused, Done, Used, Blocks, Absent, Found}
 use Rattle.calls.specs.Table.{ringOf, transactionsOf, table, zeroUnit}
-use Rattle.calls.specs.Acts.{settlingBoth, commitActs, checkpointActs, namedBlocks}
+use Rattle.calls.specs.Acts.{commitActs, checkpointActs, namedBlocks}
 use Rattle.calls.specs.Judge.{judge}
 use Rattle.calls.specs.Plans.{Machine, Kind, Plan, placesOf, blocksOf, words, sectors, ring, tableOf, refusing, fitSizes, fitHeader, damage, mountRefusal, put, mayPut, setRefusal, isFull, added, readBy, readUnit, mountBy, mountPlan, setBy, setPlan, readPlan, commitPlan, checkpointPlan, admitted, planBy, planOf}
 use Rattle.calls.specs.Steps.{Went}

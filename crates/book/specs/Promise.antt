@@ -3,14 +3,13 @@ use mathlib.Core.Path.{_≡_}
 use mathlib.Core.Bool.{Bool, true, false, cond, _&&_}
 use mathlib.Core.List.{List, [], _∷_, _++_}
 use mathlib.Core.Logic.{_⊎_}
-use Prim.Native.Nat.{ℕ, _+_, _-_, _*_, _≤_}
+use Prim.Native.Nat.{ℕ, _+_, _-_}
 use lib.Dec.{ltb}
 use lib.ListN.{length, replicate}
 use Rattle.std.specs.declared.option.Option.{Option}
 use Rattle.std.specs.declared.option.Option.the-variants.{Some, None}
 use Rattle.refusal.specs.declared.reason.Refusal.{Refusal}
 use Rattle.refusal.specs.declared.reason.Refusal.the-variants.{Dark, RingFull, ForeignUnit}
-use Rattle.device.specs.Pieces.{isUnsettled}
 use Rattle.ringlaws.specs.TxnInfo.{Transaction}
 use Rattle.calls.specs.declared.call.Call.{Call}
 use Rattle.calls.specs.declared.call.Call.the-variants.{Format, Mount, Begin, Set, Clear, Read, Commit, Abandon, Checkpoint, Close}
@@ -20,6 +19,7 @@ use Rattle.calls.specs.Acts.{namedBlocks}
 use Rattle.calls.specs.Judge.{judge}
 use Rattle.calls.specs.Plans.{Machine, Kind, placesOf, blocksOf, setRefusal, added}
 use Rattle.calls.specs.Steps.{Step}
+use Rattle.order.specs.Order.{EndsThere}
 use Rattle.book.specs.Book.{Book, blank, bookRead}
 use Rattle.book.specs.Runs.{Event, Run, isFormat}
 use Rattle.book.specs.Commits.{tally, placesTaken, WholeAndInOrder}
@@ -78,11 +78,6 @@ Right kind N B b lying call a =
     ((b .dark ≡ true) × (a ≡ Refused Dark))
     ⊎ ((b .dark ≡ false) × ByState kind N B b lying (judge (b .state) call) call a)
     ⊎ ((b .dark ≡ false) × (makesActs call ≡ true) × (a ≡ Refused Dark))
-
--- the devices have nothing to settle beyond their sizes, as every device promises
-pub record EndsThere (m : Machine) : Type 0 where
-  pub nvm : (w : ℕ) → 32 * m .devices .nvm .size ≤ w → isUnsettled (m .devices .nvm .piece w) ≡ false
-  pub disk : (s : ℕ) → 8 * m .devices .disk .size ≤ s → isUnsettled (m .devices .disk .piece s) ≡ false
 
 -- The promise after a run with these events: every next call, whatever it is and however power fails, is answered right by the
 -- book; no read of the book meets a unit that is not of the kind; and the book's units are the commits since the format, whole

@@ -14,7 +14,7 @@ use Rattle.device.specs.Sectors.{Write, Sync, sectorOf, sectorsOf, diskRules}
 use Rattle.crash.specs.Runs.{eachOf}
 use Rattle.crash.specs.Keeping.{nvmKeeps, diskKeeps, kept, Phase}
 use Rattle.crash.specs.Rows.{storing, flushing, inside, storesWord, flushesLine}
-use Rattle.crash.specs.Pair.{Pair, Act, PerformedPair}
+use Rattle.crash.specs.Pair.{Pair, Act, PerformedPair, settlingBoth}
 use Rattle.crash.proofs.Runs.{performed-split}
 use Rattle.crash.proofs.Rows.{storing-word, storing-kept, storing-row, flushing-line, flushing-row}
 use Rattle.crash.proofs.Phases.{stores-are-a-phase, writes-are-a-phase, sealing-is-a-phase}
@@ -22,7 +22,7 @@ use Rattle.ringlaws.specs.Layout.{Contents, groundMark, groundWord, recordsOf}
 use Rattle.ringlaws.specs.Newest.{laid}
 use Rattle.ringlaws.proofs.Append.{empty-spells-nothing}
 use Rattle.calls.specs.Table.{homeUnit, zeroUnit}
-use Rattle.calls.specs.Acts.{settlingBoth, sealingWord, zeroing, headerWords, heading, formatActs}
+use Rattle.calls.specs.Acts.{sealingWord, zeroing, headerWords, heading, formatActs}
 use Rattle.calllaws.specs.Holds.{Holds, Keeps}
 use Rattle.calllaws.specs.FormatLaw.{Formats-make-an-empty-store}
 use Rattle.calllaws.proofs.Homes.{home-written, zero-block}

@@ -6,11 +6,11 @@ use Prim.Native.Nat.{ℕ, _+_}
 use Rattle.device.specs.Pieces.{presentValue, isUnsettled}
 use Rattle.device.specs.Words.{wordsOf}
 use Rattle.device.specs.Sectors.{sectorsOf}
-use Rattle.crash.specs.Pair.{Pair, PerformedPair, CutPair, PairRestarted, PairRests, PairAccepts}
+use Rattle.crash.specs.Pair.{Pair, PerformedPair, CutPair, PairRestarted, PairRests, PairAccepts, settlingBoth}
 use Rattle.crash.proofs.Runs.{performed-split, stopped-split}
 use Rattle.ringlaws.specs.Layout.{Contents}
 use Rattle.ringlaws.specs.TxnInfo.{Transaction}
-use Rattle.calls.specs.Acts.{settlingBoth, checkpointActs}
+use Rattle.calls.specs.Acts.{checkpointActs}
 use Rattle.calllaws.specs.Holds.{Ready, Keeps}
 use Rattle.calllaws.specs.CheckpointLaw.{KeepsTheTable, Mounts-keep-the-table}
 use Rattle.calllaws.specs.FormatLaw.{AnyContents}

@@ -13,11 +13,10 @@ use Rattle.device.specs.Words.{wordsOf, nvmRules}
 use Rattle.device.specs.Sectors.{sectorsOf, diskRules}
 use Rattle.crash.specs.Runs.{done, then}
 use Rattle.crash.specs.Acts.{made, Accepts}
-use Rattle.crash.specs.Pair.{Pair, both, Act, onNvm, onDisk, PerformedPair, CutPair, PairRestarted, PairRests, PairAccepts, nvmPart, diskPart}
+use Rattle.crash.specs.Pair.{Pair, both, Act, onNvm, onDisk, PerformedPair, CutPair, PairRestarted, PairRests, PairAccepts, nvmPart, diskPart, settlingBoth}
 use Rattle.crash.proofs.Steps.{back-settled}
 use Rattle.crash.proofs.Pairs.{nvm-append, disk-append}
 use Rattle.crash.proofs.PairPhases.{any-devices-settle}
-use Rattle.calls.specs.Acts.{settlingBoth}
 use Rattle.calllaws.specs.FormatLaw.{AnyContents, Settling-settles-both}
 use Rattle.calllaws.proofs.Stages.{Stage, accepts-then}
 

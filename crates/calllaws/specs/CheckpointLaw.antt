@@ -1,10 +1,10 @@
 -- What a checkpoint and a mount come to, whether they are performed whole or cut. Assumes nothing.
 use mathlib.Core.List.{List, [], _∷_, _++_}
 use Prim.Native.Nat.{ℕ, _+_}
-use Rattle.crash.specs.Pair.{Pair, Act, PerformedPair, CutPair, PairRestarted, PairAccepts}
+use Rattle.crash.specs.Pair.{Pair, Act, PerformedPair, CutPair, PairRestarted, PairAccepts, settlingBoth}
 use Rattle.ringlaws.specs.Layout.{Contents}
 use Rattle.ringlaws.specs.TxnInfo.{Transaction}
-use Rattle.calls.specs.Acts.{settlingBoth, checkpointActs}
+use Rattle.calls.specs.Acts.{checkpointActs}
 use Rattle.calllaws.specs.Holds.{Ready, Holds, Keeps}
 
 -- no act is refused but for darkness; performed whole, the acts leave the ring empty and the table as it was; cut anywhere, power

@@ -6,10 +6,10 @@ use Prim.Native.Nat.{ℕ, _+_, _*_, _≤_}
 use Rattle.device.specs.Pieces.{isUnsettled}
 use Rattle.device.specs.Words.{wordsOf}
 use Rattle.device.specs.Sectors.{sectorsOf}
-use Rattle.crash.specs.Pair.{Pair, PerformedPair, PairRests, PairAccepts}
+use Rattle.crash.specs.Pair.{Pair, PerformedPair, PairRests, PairAccepts, settlingBoth}
 use Rattle.ringlaws.specs.Layout.{leastPlaces, mostPlaces, mostBlocks}
 use Rattle.calls.specs.Table.{zeroUnit}
-use Rattle.calls.specs.Acts.{settlingBoth, formatActs}
+use Rattle.calls.specs.Acts.{formatActs}
 use Rattle.calllaws.specs.Holds.{Keeps}
 
 -- a pair of devices of N + 1 units and B blocks, within the limits, with any contents; there is nothing to settle beyond the sizes

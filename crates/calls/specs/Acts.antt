@@ -7,16 +7,12 @@ use lib.ListN.{length, getD, replicate}
 use Rattle.device.specs.Words.{NvmAct, Store, Flush, Fence}
 use Rattle.device.specs.Sectors.{DiskAct, Write, Sync}
 use Rattle.crash.specs.Runs.{eachOf}
-use Rattle.crash.specs.Rows.{storing, flushing, sealing, settling}
-use Rattle.crash.specs.Pair.{Act, onNvm, onDisk}
+use Rattle.crash.specs.Rows.{storing, flushing, sealing}
+use Rattle.crash.specs.Pair.{Act, onNvm, onDisk, settlingBoth}
 use Rattle.ringlaws.specs.Layout.{Contents, groundMark, groundWord, headWord, tailWord, headOf, tailOf, after}
 use Rattle.ringlaws.specs.TxnInfo.{Transaction, taken}
 use Rattle.ringlaws.specs.Spells.{unitsOf}
 use Rattle.calls.specs.Table.{table, tableBlock, isNamed}
-
--- flush all lines of an NVM of so many units, fence, and sync
-abbrev pub settlingBoth : ℕ → List Act
-settlingBoth units = map onNvm (settling units) ++ onDisk Sync ∷ []
 
 -- store a word, flush its line, fence
 abbrev pub sealingWord : ℕ → ℕ → List Act
@@ -34,7 +30,8 @@ headerWords N B = N ∷ B ∷ replicate 29 0
 abbrev pub heading : ℕ → ℕ → List Act
 heading N B = map onNvm (storing 1 (headerWords N B) ++ (flushing 0 4 ++ Fence ∷ []))
 
--- Format: settle everything; the ground mark goes first and comes last, so that a cut after the first fence leaves no store or the finished one.
+-- Format: settle everything (flush all lines, fence, sync); the ground mark goes first and comes last, so that a cut after its
+-- first fence leaves no store or the finished one.
 abbrev pub formatActs : ℕ → ℕ → List Act
 formatActs N B =
     settlingBoth (N + 1) ++ (sealingWord groundWord 0 ++ (zeroing B ++ (heading N B ++ sealingWord groundWord groundMark)))

@@ -12,7 +12,7 @@ use Rattle.refusal.specs.declared.reason.Refusal.{Refusal}
 use Rattle.refusal.specs.declared.reason.Refusal.the-variants.{BadSize, NoGroundMark, BadHeader, UnsoundRing, NoSuchRecord, TooManyRecords, RingFull, ForeignUnit}
 use Rattle.device.specs.Words.{wordsOf}
 use Rattle.device.specs.Sectors.{sectorsOf}
-use Rattle.crash.specs.Pair.{Pair, Act}
+use Rattle.crash.specs.Pair.{Pair, Act, settlingBoth}
 use Rattle.ringlaws.specs.declared.setting.Setting.{Setting}
 use Rattle.ringlaws.specs.Layout.{Contents, groundMark, groundWord, placesWord, blocksWord, headOf, tailOf, leastPlaces, mostPlaces, mostBlocks, used, recordsOf}
 use Rattle.ringlaws.specs.TxnInfo.{Transaction, numbersOf, countLimit, taken, member, allZero}
@@ -25,7 +25,7 @@ use Rattle.calls.specs.declared.call.Call.the-variants.{Format, Mount, Begin, 
 use Rattle.calls.specs.declared.answer.Answer.{Answer}
 use Rattle.calls.specs.declared.answer.Answer.the-variants.{Refused, Done, Used, Blocks, Absent, Found}
 use Rattle.calls.specs.Table.{ringOf, table, zeroUnit}
-use Rattle.calls.specs.Acts.{settlingBoth, formatActs, commitActs, checkpointActs, namedBlocks}
+use Rattle.calls.specs.Acts.{formatActs, commitActs, checkpointActs, namedBlocks}
 use Rattle.calls.specs.Judge.{judge}
 
 -- A store as the definitions see it, a machine: its two devices, its state, and the settings of its open transaction in the order in which they were first set

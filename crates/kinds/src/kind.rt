@@ -2,7 +2,7 @@
 ghost use mathlib.Core.Path.{_≡_};
 ghost use mathlib.Core.List.{List};
 ghost use Prim.Native.Nat.{ℕ};
-ghost use lib.ListN.{replicate};
+ghost use lib.ListN.{length, replicate};
 ghost use Rattle.std.specs.declared.option.Option.{Option};
 ghost use Rattle.std.specs.declared.option.Option.the-variants.{Some};
 
@@ -15,6 +15,9 @@ pub trait RecordKind {
 
     // The record that a unit reads as, if it reads as one.
     ghost reads: { List ℕ → Option Self·Record };
+
+    // A unit has 32 words.
+    law whole: { (r : Self·Record) → length (unit r) ≡ 32 };
 
     // No record is written as 32 zero words, which stand for an absent record.
     law nonzero: { (r : Self·Record) → unit r ≡ replicate 32 0 → ⊥ };

@@ -1,0 +1,1 @@
+//! A store in order, and that every call keeps it so.
