@@ -2,3 +2,5 @@ pub mod Own
 pub mod Goods
 pub mod Follows
 pub mod Went
+pub mod WentDark
+pub mod Main

@@ -131,7 +131,7 @@ open-mounted : Open ≡ Unmounted → ⊥
 open-mounted e = let z : _≡_ {A = ℕ} 0 1 = cc in omega arith
 
 -- power stays where all acts are performed
-stays-lit : Runs-part → (acts : List Act) (m n : Pair) → isDark m ≡ false → PerformedPair m acts n → isDark n ≡ false
+pub stays-lit : Runs-part → (acts : List Act) (m n : Pair) → isDark m ≡ false → PerformedPair m acts n → isDark n ≡ false
 stays-lit parts acts m n lit p =
     let q = parts acts m n p in
     ap (λ (x : Bool). x || n .disk .dark) (run-power nvmRules (q .0)) ∙ ap (λ (x : Bool). m .nvm .dark || x) (run-power diskRules (q .1)) ∙ lit
