@@ -59,7 +59,8 @@ impl Mast {
     /// The most bytes that a name can have.
     pub const LONGEST: usize = 232;
 
-    /// A mast with this number and name, or why there is none.
+    /// A mast with this number and name, or why there is none. The mast is the answer itself: a refusal has no place of the
+    /// caller's that it could spoil.
     pub fn new(number: u64, name: &[u8]) -> Result<Mast, Refusal>
         ensures { λ r. ⌜ Cases r (Made number (now (name .entry))) (λ e. mastRefusal (now (name .entry)) ≡ Some e) ⌝ }
     {
