@@ -13,6 +13,9 @@ use Rattle.refusal.specs.declared.reason.Refusal.{Refusal}
 use Rattle.refusal.specs.declared.reason.Refusal.the-variants.{NameLength, NameByte}
 use Rattle.std.proofs.shelf.Counted.{length-map-counting, getD-map-counting}
 use Rattle.std.proofs.shelf.Lists.{ext-getD, getD-append-left, getD-past, getD-take, length-take-le}
+use Rattle.std.specs.Text.{Utf8}
+use Rattle.std.proofs.shelf.Ascii.{ascii-from-reads}
+use Rattle.std.proofs.shelf.Text.{utf8-from-ascii}
 use Rattle.std.proofs.shelf.Tests.{cases-lt, and-parts, leb-true}
 use Rattle.layout.specs.Fields.{wordOf}
 use Rattle.layout.specs.Lists.{each}
@@ -72,6 +75,13 @@ byte-small name fits j =
           omega (arith, leb-true (getD name j 0) 126 (parts .1))
       | inr ge ↦ omega (arith, getD-past name j 0 ge)
     ]
+
+-- a name is text
+pub name-text : (name : List ℕ) → isName name ≡ true → Utf8 name
+name-text name fits =
+    utf8-from-ascii name (ascii-from-reads name (length name) (omega arith) (λ k lt.
+    let parts = and-parts (leb 32 (getD name k 0)) (leb (getD name k 0) 126) (each-at isPrinted name k 0 (printed-of name fits) lt) in
+    omega (arith, leb-true (getD name k 0) 126 (parts .1))))
 
 pub byte-in : (u : List ℕ) (j : ℕ) → j < 232 → getD (bytesIn u) j 0 ≡ byteAt u j
 unfolding bytesIn

@@ -9,6 +9,7 @@ ghost use Rattle.mast.specs.Names.{isPrinted, mastRefusal, padded};
 ghost use Rattle.mast.specs.Masts.{Made, nameOf};
 use crate::record::Mast;
 use refusal::reason::Refusal;
+use std::str::from_utf8;
 
 /// Whether a byte is printed ASCII. Nothing else in the code asks this.
 fn is_printed(byte: u8) -> bool
@@ -84,5 +85,15 @@ impl Mast {
         ensures { λ r. ⌜ now r ≡ nameOf (now (self .entry)) ⌝ }
     {
         &self.bytes[0..self.size]
+    }
+
+    /// The name as text, which printed ASCII always is.
+    pub fn text(&self) -> &str
+        ensures { λ r. ⌜ now r ≡ nameOf (now (self .entry)) ⌝ }
+    {
+        match from_utf8(self.name()) {
+            Ok(text) => text,
+            Err(_) => unreachable(),
+        }
     }
 }
