@@ -1,0 +1,3 @@
+//! The workbench: what a line of input asks for, and what was done about it.
+pub mod order;
+pub mod read;
