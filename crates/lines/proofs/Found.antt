@@ -10,7 +10,7 @@ use lib.Dec.{eqb}
 use lib.ListN.{length, getD, drop, take}
 use lib.Seq.{split-at}
 use Rattle.std.specs.Finite.{nth}
-use Rattle.std.proofs.shelf.Lists.{take-all, take-rest, drop-all, drop-more, length-take-le}
+use Rattle.std.proofs.shelf.Lists.{take-all, take-rest, drop-all, drop-more, length-take-le, length-drop}
 use Rattle.std.proofs.shelf.Tests.{cases-lt}
 use Rattle.std.specs.declared.option.Option.the-variants.{Some, None}
 use Rattle.lines.specs.Pieces.{begun, parted, linesOf, fieldsOf}
@@ -95,6 +95,9 @@ pub rest-unended : (text : List ℕ) (r : ℕ) → r ≡ length text → behind 
 rest-unended text r e =
     let long : length text ≤ length (take (r - 0) text) + 1 = omega (arith, front-length text r (omega arith)) in
     take-rest text r ∙ (drop-all r text (omega arith) ∙ sym (drop-all (length (take (r - 0) text) + 1) text long))
+
+pub behind-shorter : (text : List ℕ) (r : ℕ) → 0 < length text → 0 < r → length (behind text r) < length text
+behind-shorter text r some past = simp (take-rest, length-drop) (omega arith)
 
 -- from the fields of the rest to those of the line: `passed` fields stand before it
 abbrev pub Ahead : List (List ℕ) → ℕ → List (List ℕ) → Type 0

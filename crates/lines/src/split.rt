@@ -40,6 +40,7 @@ fn find_mark(text: &[u8], mark: u8) -> usize
 pub fn first_line(text: &[u8]) -> Option<Split<'_>>
     ensures lines { λ r. ⌜ BySome r (now (text .entry) ≡ []) (λ s. linesOf (now (text .entry)) ≡ now (s .line) ∷ linesOf (now (s .rest))) ⌝ }
     ensures rest { λ r. ⌜ BySome r (Unit {0}) (λ s. now (s .rest) ≡ drop (length (now (s .line)) + 1) (now (text .entry))) ⌝ }
+    ensures shorter { λ r. ⌜ BySome r (Unit {0}) (λ s. length (now (s .rest)) < length (now (text .entry))) ⌝ }
     ensures law { λ _. ⌜ Lined (now (text .entry)) (linesOf (now (text .entry))) ⌝ }
 {
     if text.is_empty() {
