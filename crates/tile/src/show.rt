@@ -1,0 +1,14 @@
+//! A tile as text.
+use crate::record::Tile;
+use std::fmt;
+
+/// `tile`, the column, the row, the plan and the level of sample 0, with tabs between them.
+pub impl fmt::Display for Tile as TileDisplay {
+    fn fmt<W: fmt::Write>(&self, f: &mut fmt::Formatter<W>) -> fmt::Result {
+        let column = self.column;
+        let row = self.row;
+        let plan = self.plan;
+        let first = self.levels[0];
+        write!(f, "tile\t{column}\t{row}\t{plan}\t{first}")
+    }
+}
