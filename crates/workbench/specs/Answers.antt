@@ -1,7 +1,9 @@
 -- What the answer to a line is: the record that was made, its unit and what the unit reads as, or why there is none.
 use mathlib.Core.Path.{_≡_}
+use mathlib.Core.Bool.{cond}
 use mathlib.Core.List.{List}
 use Prim.Native.Nat.{ℕ}
+use lib.Dec.{leb}
 use lib.IntN.{ℤ}
 use lib.ListN.{replicate}
 use Rattle.std.specs.declared.option.Option.{Option}
@@ -16,7 +18,7 @@ use Rattle.joined.specs.declared.record.Joined.the-variants.{Tile, Mast}
 use Rattle.joined.specs.Joins.{joinedUnit, joinedReads}
 use Rattle.workbench.specs.declared.write.RoundTrip.{RoundTrip}
 use Rattle.workbench.specs.declared.answer.Answer.{Answer}
-use Rattle.workbench.specs.declared.answer.Answer.the-variants.{Done, Refused, Unknown}
+use Rattle.workbench.specs.declared.answer.Answer.the-variants.{Done, Refused, Unknown, TooLong}
 use Rattle.workbench.specs.Orders.{Asked, tile, mast}
 
 -- the number of an answer
@@ -24,6 +26,11 @@ abbrev pub numberOf : Answer → ℕ
 numberOf (Done number trip) = 0
 numberOf (Refused why) = refusals.numberOf why
 numberOf Unknown = 90
+numberOf TooLong = 91
+
+-- the answer to an input of so many bytes as a whole, if it is not run line by line
+abbrev pub inputAnswer : ℕ → Option Answer
+inputAnswer bytes = cond (leb bytes 65536) None (Some TooLong)
 
 -- the record is the tile with these fields and one level for all samples, or the mast with this number and name
 abbrev pub IsTile : (column row plan : ℕ) (level : ℤ) → Joined → Type 0
@@ -44,12 +51,14 @@ abbrev pub Kept : ℕ → Joined → Answer → Type 0
 Kept number value (Done n trip) = (n ≡ number) × (trip .back ≡ value) × Whole trip
 Kept number value (Refused why) = ⊥
 Kept number value Unknown = ⊥
+Kept number value TooLong = ⊥
 
 -- the answer to an order: the record asked for, or the refusal of making it
 abbrev pub Follows : ℕ → (Joined → Type 0) → Option Refusal → Answer → Type 0
 Follows number Is refusal (Done n trip) = (refusal ≡ None) × (n ≡ number) × Is (trip .back) × Whole trip
 Follows number Is refusal (Refused why) = refusal ≡ Some why
 Follows number Is refusal Unknown = ⊥
+Follows number Is refusal TooLong = ⊥
 
 -- the answer to a line, by what the line asks for
 abbrev pub Answered : Option Asked → Answer → Type 0

@@ -15,4 +15,6 @@ pub enum Answer {
     Refused(Refusal),
     /// The line gives no order.
     Unknown,
+    /// The input as a whole is too long, and no line of it is run.
+    TooLong,
 }

@@ -3,4 +3,5 @@ pub mod answer;
 pub mod order;
 pub mod perform;
 pub mod read;
+pub mod show;
 pub mod write;

@@ -1,9 +1,10 @@
 //! The line runner: what a line asks for is done, and answered.
 ghost use mathlib.Core.Path.{_≡_};
+ghost use lib.ListN.{length};
 ghost use Rattle.std.specs.declared.option.Option.the-variants.{Some};
 ghost use Rattle.lines.specs.Pieces.{fieldsOf};
 ghost use Rattle.workbench.specs.Orders.{asked, askedBy};
-ghost use Rattle.workbench.specs.Answers.{Answered, Kept, numberOf};
+ghost use Rattle.workbench.specs.Answers.{Answered, Kept, inputAnswer, numberOf};
 use crate::answer::Answer;
 use crate::order::Order;
 use crate::read::order_in;
@@ -58,6 +59,19 @@ pub fn run_line(line: &[u8]) -> Answer
     }
 }
 
+/// The most bytes that an input can have, a final newline included.
+pub const LIMIT: usize = 65_536;
+
+/// The answer to an input as a whole, where it is refused.
+pub fn refuse_input(text: &[u8]) -> Option<Answer>
+    ensures { λ r. ⌜ r ≡ inputAnswer (length (now (text .entry))) ⌝ }
+{
+    if text.len() > LIMIT {
+        return Some(Answer::TooLong);
+    }
+    None
+}
+
 impl Answer {
     /// The number that stands for this answer: 0 where the order was done.
     pub fn code(&self) -> u32
@@ -67,6 +81,7 @@ impl Answer {
             Answer::Done { .. } => 0,
             Answer::Refused(why) => why.number(),
             Answer::Unknown => 90,
+            Answer::TooLong => 91,
         }
     }
 }
