@@ -89,7 +89,7 @@ unit-fits : (u : List ℕ) (m : Mast) → u ≡ mastUnit m → isName (nameIn u)
 unit-fits u m e = ap (λ (v : List ℕ). isName (nameIn v)) e ∙ ap isName (name-back (m .number) (nameOf m) (m .named)) ∙ m .named
 
 -- a mast's name is not refused
-pub accepted : (name : List ℕ) → isName name ≡ true → mastRefusal name ≡ None
+accepted : (name : List ℕ) → isName name ≡ true → mastRefusal name ≡ None
 accepted name fits =
     let parts = and-parts (isLength (length name)) (each isPrinted name) fits in
     cond-true (isLength (length name)) (cond (each isPrinted name) None (Some NameByte)) (Some NameLength) (parts .0)

@@ -1,20 +1,27 @@
 -- The words of a mast's unit and the name that stands in them.
 use mathlib.Core.Path.{_≡_, refl, ap, sym, _∙_}
 use mathlib.Core.List.{List}
-use mathlib.Core.Bool.{Bool, true}
+use mathlib.Core.Bool.{Bool, true, false, cond, _&&_}
 use mathlib.Core.Logic.{inl, inr}
-use Prim.Native.Nat.{ℕ, zero, suc, _+_, _*_, _^_, _<_, _≤_}
+use Prim.Native.Nat.{ℕ, zero, suc, _+_, _-_, _*_, _^_, _<_, _≤_}
 use native.Mathlib.Omega.{arith}
-use lib.ListN.{length, getD, take}
+use lib.ListN.{length, getD, take, replicate}
 use lib.Dec.{leb}
+use Rattle.std.specs.declared.option.Option.{Option}
+use Rattle.std.specs.declared.option.Option.the-variants.{Some, None}
+use Rattle.refusal.specs.declared.reason.Refusal.{Refusal}
+use Rattle.refusal.specs.declared.reason.Refusal.the-variants.{NameLength, NameByte}
 use Rattle.std.proofs.shelf.Counted.{length-map-counting, getD-map-counting}
-use Rattle.std.proofs.shelf.Lists.{ext-getD, getD-past, getD-take, length-take-le}
-use Rattle.std.proofs.shelf.Tests.{cases-lt, and-from, and-parts, leb-true, le-leb}
+use Rattle.std.proofs.shelf.Lists.{ext-getD, getD-append-left, getD-past, getD-take, length-take-le}
+use Rattle.std.specs.Text.{Utf8}
+use Rattle.std.proofs.shelf.Ascii.{ascii-from-reads}
+use Rattle.std.proofs.shelf.Text.{utf8-from-ascii}
+use Rattle.std.proofs.shelf.Tests.{cases-lt, and-parts, leb-true}
 use Rattle.layout.specs.Fields.{wordOf}
 use Rattle.layout.specs.Lists.{each}
 use Rattle.layout.proofs.Fields.{fields-come-back, words-come-back, packed-same}
 use Rattle.layout.proofs.Each.{each-at}
-use Rattle.mast.specs.Names.{isPrinted, isLength, isName, short}
+use Rattle.mast.specs.Names.{isPrinted, isLength, isName, mastRefusal, padded, short, padded-whole, padded-after}
 use Rattle.mast.specs.Masts.{byteOf, nameWords, mastWords, byteAt, bytesIn, nameIn}
 
 pub length-name : (bytes : List ℕ) (size n : ℕ) → length bytes ≡ n → size ≤ n → length (take size bytes) ≡ size
@@ -38,10 +45,24 @@ front bytes size j le padding =
           getD-past (take size bytes) j 0 past ∙ sym (padding ge)
     ]
 
-pub name-fits : (name : List ℕ) → 1 ≤ length name → length name ≤ 232 → each isPrinted name ≡ true → isName name ≡ true
-name-fits name least most printed =
-    and-from (isLength (length name)) (each isPrinted name)
-    (and-from (leb 1 (length name)) (leb (length name) 232) (le-leb 1 (length name) least) (le-leb (length name) 232 most)) printed
+passed : (a b : Bool) → cond a (cond b None (Some NameByte)) (Some NameLength) ≡ None → (a && b) ≡ true
+passed true true e = refl
+passed true false e = let z : _≡_ {A = ℕ} 0 1 = cc in absurd (omega arith)
+passed false b e = let z : _≡_ {A = ℕ} 0 1 = cc in absurd (omega arith)
+
+-- what is not refused is a name
+pub name-fits : (name : List ℕ) → None ≡ mastRefusal name → isName name ≡ true
+name-fits name e = passed (isLength (length name)) (each isPrinted name) (sym e)
+
+-- an array that holds a name and is zero after it is the padded name
+pub padded-by : (name bytes : List ℕ) → length name ≤ 232 → length bytes ≡ 232 → ((k : ℕ) → k < length name → getD bytes k 0 ≡ getD name k 0)
+    → ((k : ℕ) → length name ≤ k → getD bytes k 0 ≡ 0) → bytes ≡ padded name
+padded-by name bytes le whole same after =
+    ext-getD 0 bytes (padded name) (whole ∙ sym (padded-whole name le)) (λ k _.
+    elim (cases-lt k (length name)) [
+      | inl lt ↦ same k lt ∙ sym (getD-append-left name (replicate (232 - length name) 0) 0 k lt)
+      | inr ge ↦ after k ge ∙ sym (padded-after name k ge)
+    ])
 
 printed-of : (name : List ℕ) → isName name ≡ true → each isPrinted name ≡ true
 printed-of name fits = and-parts (isLength (length name)) (each isPrinted name) fits .1
@@ -54,6 +75,13 @@ byte-small name fits j =
           omega (arith, leb-true (getD name j 0) 126 (parts .1))
       | inr ge ↦ omega (arith, getD-past name j 0 ge)
     ]
+
+-- a name is text
+pub name-text : (name : List ℕ) → isName name ≡ true → Utf8 name
+name-text name fits =
+    utf8-from-ascii name (ascii-from-reads name (length name) (omega arith) (λ k lt.
+    let parts = and-parts (leb 32 (getD name k 0)) (leb (getD name k 0) 126) (each-at isPrinted name k 0 (printed-of name fits) lt) in
+    omega (arith, leb-true (getD name k 0) 126 (parts .1))))
 
 pub byte-in : (u : List ℕ) (j : ℕ) → j < 232 → getD (bytesIn u) j 0 ≡ byteAt u j
 unfolding bytesIn

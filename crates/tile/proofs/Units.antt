@@ -1,11 +1,10 @@
 -- The words of a tile's unit and the levels that stand in them.
-use mathlib.Core.Path.{_≡_, refl, ap, sym, subst, _∙_}
-use mathlib.Core.List.{List, [], _∷_}
-use mathlib.Core.Bool.{Bool, true, false}
+use mathlib.Core.Path.{_≡_, refl, ap, sym, _∙_}
+use mathlib.Core.List.{List}
+use mathlib.Core.Bool.{true}
 use mathlib.Core.Logic.{inl, inr}
 use Prim.Native.Nat.{ℕ, zero, suc, _+_, _*_, _/_, _%_, _^_, _<_, _≤_}
 use native.Mathlib.Omega.{arith}
-use borrow.Author.Needs.{needs}
 use lib.ListN.{length, getD}
 use lib.IntN.{ℤ, pos}
 use mir.Syntax.{w16}
@@ -13,7 +12,7 @@ use mir.Val.{SFits, ofZ, toZ}
 use Rattle.std.specs.Iters.{counting}
 use Rattle.std.proofs.shelf.Bits.{mod-below}
 use Rattle.std.proofs.shelf.Counted.{length-map-counting, getD-map-counting, fill-by-all}
-use Rattle.std.proofs.shelf.Lists.{ext-getD}
+use Rattle.std.proofs.shelf.Lists.{ext-getD, getD-past}
 use Rattle.std.proofs.shelf.Signed.{ints, toZ-ofZ, ofZ-toZ}
 use Rattle.std.proofs.shelf.Tests.{cases-lt}
 use Rattle.layout.specs.Fields.{wordOf, fieldAt}
@@ -27,16 +26,11 @@ use Rattle.tile.specs.Tiles.{levelBits, levelWords, tileWords, levelAt, levels
 pub level-fits : (z : ℤ) → isLevel z ≡ true → SFits w16 z
 level-fits z h = grind (arith, ints)
 
-past : (levels : List ℤ) (s : ℕ) → length levels ≤ s → getD levels s (pos 0) ≡ pos 0
-past [] s h = refl
-past (x ∷ xs) zero h = absurd (omega arith)
-past (x ∷ xs) (suc s) h = past xs s (omega arith)
-
 bits-small : (levels : List ℤ) → each isLevel levels ≡ true → (s : ℕ) → levelBits levels s < 2 ^ 16
 bits-small levels h s =
     elim (cases-lt s (length levels)) [
       | inl lt ↦ let f : SFits w16 (getD levels s (pos 0)) = level-fits (getD levels s (pos 0)) (each-at isLevel levels s (pos 0) h lt) in omega (arith, ints)
-      | inr ge ↦ let e : levelBits levels s ≡ 0 = ap (ofZ w16) (past levels s ge) in omega arith
+      | inr ge ↦ let e : levelBits levels s ≡ 0 = ap (ofZ w16) (getD-past levels s (pos 0) ge) in omega arith
     ]
 
 module _ (column row plan : ℕ) (levels : List ℤ) where

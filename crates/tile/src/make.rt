@@ -41,6 +41,7 @@ impl Tile {
     pub const SAMPLES: usize = 112;
 
     /// A tile with these fields, or why there is none: a column or row too large comes before a level out of range.
+    /// The tile is the answer itself: a refusal has no place of the caller's that it could spoil.
     pub fn new(column: u64, row: u64, plan: u64, levels: &[i16; 112]) -> Result<Tile, Refusal>
         ensures { λ r. ⌜ Cases r (Made column row plan (now (levels .entry))) (λ e. tileRefusal column row (now (levels .entry)) ≡ Some e) ⌝ }
     {

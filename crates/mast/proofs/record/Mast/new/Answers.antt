@@ -1,37 +1,36 @@
-use mathlib.Core.Path.{_≡_, refl, ap, sym, _∙_}
+use mathlib.Core.Path.{_≡_, refl, ap, sym, subst, _∙_}
 use mathlib.Core.List.{List}
 use mathlib.Core.Bool.{true}
-use native.Mathlib.Omega.{arith}
-use Prim.Native.Nat.{ℕ, _<_, _≤_}
+use Prim.Native.Nat.{ℕ, _≤_}
 use lib.ListN.{length, getD, take}
-use Rattle.layout.specs.Lists.{each}
-use Rattle.mast.specs.Names.{isPrinted, isName, zeros}
-use Rattle.mast.proofs.Units.{copied, name-fits}
-use Rattle.mast.proofs.Laws.{accepted}
+use Rattle.mast.specs.Names.{isName, short, padded, padded-whole, padded-name, padded-after}
+use Rattle.mast.proofs.Units.{name-fits}
 use Rattle.mast.proofs.record.Mast.new.Needs as need
 
-pub loop-i-holds : need.loop-i-holds
-loop-i-holds c = (refl, (λ k h. absurd (omega arith)), (λ k h. zeros 232 k))
+pub padded-name-requires : need.padded-name-requires
+padded-name-requires c κs = short (c .args .name .now) (name-fits (c .args .name .now) (c .in-None .ensures tt))
 
 pub ghost-result : need.ghost-result
 ghost-result c =
     let name : List ℕ = c .args .name .now in
-    let bytes : List ℕ = c .loop-i .bytes in
-    let most : length name ≤ 232 = c .if-size-gt-LONGEST .left in
-    let whole : length bytes ≡ 232 = c .loop-i .inv .0 in
-    let front : take (length name) bytes ≡ name = copied name bytes (omega arith) (λ k lt. c .loop-i .inv .1 k (omega arith)) in
-    let fits : isName name ≡ true = name-fits name (omega arith) most (sym (c .are-printed .ensures) ∙ c .if-not-are-printed .left) in
-    (whole, (most, (ap isName front ∙ fits, ((λ j ge. c .loop-i .inv .2 j (omega arith)), tt))))
+    let fits : isName name ≡ true = name-fits name (c .in-None .ensures tt) in
+    let most : length name ≤ 232 = short name fits in
+    let is = c .padded-name .ensures in (
+      ap length is ∙ padded-whole name most,
+      (
+        most,
+        (
+          ap (λ (bytes : List ℕ). isName (take (length name) bytes)) is ∙ ap isName (padded-name name) ∙ fits,
+          ((λ j ge. ap (λ (bytes : List ℕ). getD bytes j 0) is ∙ padded-after name j ge), tt),
+        ),
+      ),
+    )
 
-pub returns : need.returns
-returns c =
+pub returns-in-None : need.returns-in-None
+returns-in-None c =
     let name : List ℕ = c .args .name .now in
-    let bytes : List ℕ = c .loop-i .bytes in
-    let most : length name ≤ 232 = c .if-size-gt-LONGEST .left in
-    let whole : length bytes ≡ 232 = c .loop-i .inv .0 in
-    let fits : isName name ≡ true = name-fits name (omega arith) most (sym (c .are-printed .ensures) ∙ c .if-not-are-printed .left) in
     record {
-      accepted = accepted name fits;
+      accepted = sym (c .in-None .ensures tt);
       sameNumber = refl;
-      sameName = copied name bytes (omega arith) (λ k lt. c .loop-i .inv .1 k (omega arith));
+      sameName = ap (take (length name)) (c .padded-name .ensures) ∙ padded-name name;
     }

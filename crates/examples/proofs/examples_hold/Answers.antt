@@ -1,0 +1,27 @@
+use mathlib.Core.Path.{refl}
+use Rattle.examples.specs.Records.{RecordExamples}
+use Rattle.examples.proofs.examples_hold.Needs as need
+
+records : RecordExamples
+records = record {
+  lowestPasses = refl;
+  highestPasses = refl;
+  belowLowestIs41 = refl;
+  aboveHighestIs41 = refl;
+  lastColumnAndRowPass = refl;
+  columnBeyondIs40 = refl;
+  rowBeyondIs40 = refl;
+  columnComesFirst = refl;
+  oneBytePasses = refl;
+  longestPasses = refl;
+  noByteIs42 = refl;
+  tooLongIs42 = refl;
+  lengthComesFirst = refl;
+  controlByteIs43 = refl;
+  deleteByteIs43 = refl;
+  ridgeIsAName = refl;
+  ridgeWord = refl;
+}
+
+pub returns : need.returns
+returns c = record { records = records }
