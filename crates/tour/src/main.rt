@@ -2,10 +2,11 @@
 use lines::split::first_line;
 use std::error::AnyError;
 use std::io::Read;
+use words::InWords;
+use words::InWordsDisplay;
 use workbench::perform::LIMIT;
 use workbench::perform::refuse_input;
 use workbench::perform::run_line;
-use workbench::show::AnswerDisplay;
 
 /// All of the input, or of a longer one as much as shows that it is too long.
 fn read_input(rt: &LibcRuntime) -> Result<Vec<u8>, AnyError> {
@@ -20,7 +21,8 @@ fn answer_lines(rt: &LibcRuntime, text: &[u8]) -> Result<(), AnyError> {
     let mut number = 1u64;
     while let Some(split) = first_line(rest) {
         let answer = run_line(split.line);
-        println!(rt, "line {number}: {answer}")?;
+        let words = InWords { answer: &answer };
+        println!(rt, "line {number}: {words}")?;
         number = number.wrapping_add(1);
         rest = split.rest;
     }
@@ -30,7 +32,10 @@ fn answer_lines(rt: &LibcRuntime, text: &[u8]) -> Result<(), AnyError> {
 fn tour(rt: &LibcRuntime) -> Result<(), AnyError> {
     let text = read_input(rt)?;
     match refuse_input(text.as_slice()) {
-        Some(answer) => Ok(println!(rt, "input: {answer}")?),
+        Some(answer) => {
+            let words = InWords { answer: &answer };
+            Ok(println!(rt, "input: {words}")?)
+        }
         None => answer_lines(rt, text.as_slice()),
     }
 }

@@ -3,5 +3,4 @@ pub mod answer;
 pub mod order;
 pub mod perform;
 pub mod read;
-pub mod show;
 pub mod write;

@@ -1,10 +1,10 @@
-//! Answers in words.
-use crate::answer::Answer;
+//! Answers in words that a planner understands. Nothing is proved of these texts but that they can always be written.
 use joined::record::Joined;
 use mast::record::Mast;
 use refusal::reason::Refusal;
 use std::fmt;
 use tile::record::Tile;
+use workbench::answer::Answer;
 
 /// Why there is no such record, in a few words.
 fn reason(why: Refusal) -> &'static str {
@@ -66,24 +66,34 @@ fn show_mast<W: fmt::Write>(
 }
 
 /// What was done, or the number of the refusal and why.
-pub impl fmt::Display for Answer as AnswerDisplay {
-    fn fmt<W: fmt::Write>(&self, f: &mut fmt::Formatter<W>) -> fmt::Result {
-        let code = self.code();
-        match self {
-            Answer::Done { number, trip } => {
-                write!(f, "record {number} is ")?;
-                match &trip.back {
-                    Joined::Tile(tile) => show_tile(tile, &trip.unit, f)?,
-                    Joined::Mast(mast) => show_mast(mast, &trip.unit, f)?,
-                }
-                write!(f, " and read back the same")
+fn show_answer<W: fmt::Write>(answer: &Answer, f: &mut fmt::Formatter<W>) -> fmt::Result {
+    let code = answer.code();
+    match answer {
+        Answer::Done { number, trip } => {
+            write!(f, "record {number} is ")?;
+            match &trip.back {
+                Joined::Tile(tile) => show_tile(tile, &trip.unit, f)?,
+                Joined::Mast(mast) => show_mast(mast, &trip.unit, f)?,
             }
-            Answer::Refused(why) => {
-                let words = reason(*why);
-                write!(f, "refused {code}: {words}")
-            }
-            Answer::Unknown => write!(f, "refused {code}: not a line that I know"),
-            Answer::TooLong => write!(f, "refused {code}: more than 65536 bytes"),
+            write!(f, " and read back the same")
         }
+        Answer::Refused(why) => {
+            let words = reason(*why);
+            write!(f, "refused {code}: {words}")
+        }
+        Answer::Unknown => write!(f, "refused {code}: not a line that I know"),
+        Answer::TooLong => write!(f, "refused {code}: more than 65536 bytes"),
+    }
+}
+
+/// An answer, to be printed.
+#[derive(Clone, Copy)]
+pub struct InWords<'a> {
+    pub answer: &'a Answer,
+}
+
+pub impl fmt::Display for InWords<'_> as InWordsDisplay {
+    fn fmt<W: fmt::Write>(&self, f: &mut fmt::Formatter<W>) -> fmt::Result {
+        show_answer(self.answer, f)
     }
 }
