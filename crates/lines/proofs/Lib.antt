@@ -1,0 +1,3 @@
+pub mod Cutting
+pub mod Found
+pub mod Reading
