@@ -1,0 +1,4 @@
+pub mod Lists
+pub mod Listing
+pub mod Power
+pub mod Natures
