@@ -2,17 +2,20 @@
 use mathlib.Core.Path.{_≡_, refl, sym, ap, subst, _∙_}
 use mathlib.Core.Bool.{Bool, true, false, cond}
 use mathlib.Core.Logic.{_⊎_, inl, inr}
-use Prim.Native.Nat.{ℕ}
+use Prim.Native.Nat.{ℕ, _-_}
+use native.Mathlib.Omega.{arith}
 use lib.Dec.{eqb}
 use Rattle.std.specs.declared.option.Option.{Option}
 use Rattle.std.specs.declared.option.Option.the-variants.{Some, None}
 use Rattle.std.specs.declared.result.Result.{Result}
 use Rattle.std.specs.declared.result.Result.the-variants.{Ok, Err}
 use Rattle.refusal.specs.declared.reason.Refusal.{Refusal}
-use Rattle.refusal.specs.declared.reason.Refusal.the-variants.{Dark}
+use Rattle.refusal.specs.declared.reason.Refusal.the-variants.{Dark, Beyond, Unsettled}
 use Rattle.device.specs.declared.comeback.Comeback.{Comeback}
 use Rattle.device.specs.Pieces.{Piece, settled, presentValue, settledValue, MaySettle, ComesBack}
 use Rattle.device.specs.Devices.{Meaning, Rules, darkened, refusalOf, Acted, Restarted}
+use Rattle.simulated.specs.declared.supply.Supply.{Supply}
+use Rattle.simulated.specs.Power.{spendAnswer, spent}
 use Rattle.simulated.specs.Natures.{Simulated, Outcome, outcomeOf, answerOf, stateOf, performedBy, answers, becomes, takesNew, returned}
 
 -- two simulated devices are equal if all their parts are
@@ -60,6 +63,52 @@ module _ {Act Mark Value : Type 0} (rules : Rules Act Mark Value) (makes : ℕ �
         power = ap (λ x. x .meaning .dark) state;
         pieces = λ k. subst (MaySettle (rules .makes a k (s .meaning .piece k))) (sym (ap (λ x. x .meaning .piece k) state)) (may k);
       })
+
+-- An act within the size and not blocked, on a device with these pieces: it asks the power p, which is q then.
+module _ {Act Mark Value : Type 0} (rules : Rules Act Mark Value) (makes : ℕ → Piece Mark Value → Piece Mark Value) (size : ℕ) (piece : ℕ → Piece Mark Value) (a : Act)
+    (within : rules .beyond size a ≡ false) (free : rules .blocked piece a ≡ false) where
+  abbrev pub powered : Supply → Simulated Mark Value
+  powered p = record { meaning = record { size = size; dark = p .dark; piece = piece }; left = p .left }
+
+  allowed : (left : ℕ) → refusalOf rules (record { size = size; dark = false; piece = piece }) a ≡ None
+  allowed left =
+      ap (λ t. cond t (Some Beyond) (cond (rules .blocked piece a) (Some Unsettled) None)) within
+      ∙ ap (λ t. cond t (Some Unsettled) None) free
+
+  -- power does not suffice
+  pub halted : (p q : Supply) (e : Refusal) → Err e ≡ spendAnswer p → q ≡ spent p → (Err e ≡ answers rules (powered p) a) × (powered q ≡ becomes rules makes (powered p) a)
+  halted p q e = by-tests (p .dark) (p .left) (eqb (p .left) 0) refl
+    where
+      by-tests : (dark : Bool) (left : ℕ) (z : Bool) → eqb left 0 ≡ z → Err e ≡ cond dark (Err Dark) (cond z (Err Dark) (Ok (tt {0})))
+          → q ≡ cond dark (record { left = left; dark = dark }) (cond z (record { left = left; dark = true }) (record { left = left - 1; dark = false }))
+          → (Err e ≡ answers rules (powered (record { left = left; dark = dark })) a) × (powered q ≡ becomes rules makes (powered (record { left = left; dark = dark })) a)
+      by-tests true left z i answer after = (
+        answer ∙ refused-answer rules makes (powered (record { left = left; dark = true })) a Dark refl,
+        ap powered after ∙ refused-state rules makes (powered (record { left = left; dark = true })) a Dark refl,
+      )
+      by-tests false left true i answer after = (
+        answer ∙ dark-answer rules makes (powered (record { left = left; dark = false })) a (allowed left) i,
+        ap powered after ∙ dark-state rules makes (powered (record { left = left; dark = false })) a (allowed left) i,
+      )
+      by-tests false left false i answer after = let z : _≡_ {A = ℕ} 0 1 = cc in absurd (omega arith)
+
+  -- power suffices, and the device t has performed the act
+  pub performed : (p q : Supply) (u : Unit {0}) (t : Simulated Mark Value) → Ok u ≡ spendAnswer p → q ≡ spent p
+      → t .meaning .size ≡ size → t .meaning .dark ≡ q .dark → ((i : ℕ) → t .meaning .piece i ≡ makes i (piece i)) → t .left ≡ q .left
+      → (Ok tt ≡ answers rules (powered p) a) × (t ≡ becomes rules makes (powered p) a)
+  performed p q u t = by-tests (p .dark) (p .left) (eqb (p .left) 0) refl
+    where
+      by-tests : (dark : Bool) (left : ℕ) (z : Bool) → eqb left 0 ≡ z → Ok u ≡ cond dark (Err Dark) (cond z (Err Dark) (Ok (tt {0})))
+          → q ≡ cond dark (record { left = left; dark = dark }) (cond z (record { left = left; dark = true }) (record { left = left - 1; dark = false }))
+          → t .meaning .size ≡ size → t .meaning .dark ≡ q .dark → ((i : ℕ) → t .meaning .piece i ≡ makes i (piece i)) → t .left ≡ q .left
+          → (Ok tt ≡ answers rules (powered (record { left = left; dark = dark })) a) × (t ≡ becomes rules makes (powered (record { left = left; dark = dark })) a)
+      by-tests true left z i answer after s d h l = let z : _≡_ {A = ℕ} 0 1 = cc in absurd (omega arith)
+      by-tests false left true i answer after s d h l = let z : _≡_ {A = ℕ} 0 1 = cc in absurd (omega arith)
+      by-tests false left false i answer after s d h l = (
+        performed-answer rules makes (powered (record { left = left; dark = false })) a (allowed left) i,
+        same-state t (performedBy makes (powered (record { left = left; dark = false }))) s (d ∙ ap (λ x. x .dark) after) h (l ∙ ap (λ x. x .left) after)
+            ∙ performed-state rules makes (powered (record { left = left; dark = false })) a (allowed left) i,
+      )
 
 either-back : {Mark Value : Type 0} (t : Bool) (c d : Piece Mark Value) → d ≡ settled (cond t (presentValue c) (settledValue c)) → ComesBack c d
 either-back true c d e = inr e

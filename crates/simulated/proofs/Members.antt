@@ -11,6 +11,7 @@ use borrow.Author.Tests.{eqb-true, eq-eqb}
 use Rattle.std.specs.shelf.Lists.{kept-by}
 use Rattle.std.proofs.shelf.Tests.{true≢false, and-parts, and-from, or-parts, not-true, not-from-false}
 use Rattle.simulated.specs.Lists.{member, distinct}
+use Rattle.simulated.specs.Listing.{withLine}
 
 pub no-true : {P : Type 0} (x : Bool) → x ≡ false → x ≡ true → P
 no-true x e h = absurd (true≢false (sym h ∙ e))
@@ -93,3 +94,15 @@ distinct-kept p (x ∷ xs) d =
     by-test : (t : Bool) → not (member x (kept-by p xs)) && distinct (kept-by p xs) ≡ true → distinct (kept-by p xs) ≡ true → distinct (cond t (x ∷ kept-by p xs) (kept-by p xs)) ≡ true
     by-test true h g = h
     by-test false h g = g
+
+-- the members of a list to which a number was added
+pub member-with : (x b : ℕ) (xs : List ℕ) → member x (withLine xs b) ≡ (member x xs || eqb x b)
+member-with x b xs = by-test (member b xs) refl
+  where
+    by-test : (t : Bool) → member b xs ≡ t → member x (cond t xs (xs ++ b ∷ [])) ≡ (member x xs || eqb x b)
+    by-test true i = by-equal (eqb x b) refl
+      where
+        by-equal : (u : Bool) → eqb x b ≡ u → member x xs ≡ (member x xs || u)
+        by-equal true j = let here : member x xs ≡ true = ap (λ k. member k xs) (eqb-true x b j) ∙ i in here ∙ sym (or-true (member x xs))
+        by-equal false j = sym (or-false (member x xs))
+    by-test false i = member-push x b xs
