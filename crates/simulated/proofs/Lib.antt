@@ -3,3 +3,4 @@ pub mod Flags
 pub mod Sets
 pub mod Lent
 pub mod Laws
+pub mod Lasting
