@@ -2,22 +2,19 @@
 use mathlib.Core.Path.{_≡_, refl, sym, ap, _∙_}
 use mathlib.Core.Bool.{Bool, true, false, cond, not, _&&_}
 use mathlib.Core.List.{List}
-use mathlib.Core.Logic.{_⊎_, inl, inr}
-use Prim.Native.Nat.{ℕ, _+_, _-_, _*_, _/_, _%_, _<_, _≤_}
+use Prim.Native.Nat.{ℕ, _+_, _-_, _*_, _/_, _%_, _<_}
 use native.Mathlib.Omega.{arith}
-use lib.Dec.{eqb, ltb}
+use lib.Dec.{eqb}
 use lib.ListN.{length, getD}
-use Rattle.std.specs.Iters.{counting}
 use Rattle.std.specs.declared.option.Option.the-variants.{Some, None}
 use Rattle.std.proofs.shelf.Ways.{tells}
-use Rattle.std.proofs.shelf.Tests.{eqb-true, eqb-false, cond-true, cond-false, true≢false}
-use Rattle.std.proofs.shelf.Lists.{getD-past}
+use Rattle.std.proofs.shelf.Tests.{eqb-true, cond-true, cond-false, true≢false}
 use Rattle.std.proofs.shelf.Counted.{length-map-counting, getD-map-counting, fill-by-all}
 use Rattle.refusal.specs.declared.reason.Refusal.the-variants.{Dark, Beyond, Unsettled}
 use Rattle.device.specs.declared.comeback.Comeback.{Comeback}
-use Rattle.device.specs.Pieces.{Piece, settled, unsettled, settledValue, presentValue, isUnsettled}
-use Rattle.device.specs.Devices.{Meaning, Rules, refusalOf}
-use Rattle.device.specs.Sectors.{SectorMark, waits, Sector, DiskMeaning, DiskAct, Write, sectorOf, diskMakes, anyBelow, diskRules, diskBeyond, diskBlocked, diskWord, blockOf}
+use Rattle.device.specs.Pieces.{settled, unsettled, settledValue, presentValue, isUnsettled}
+use Rattle.device.specs.Devices.{refusalOf}
+use Rattle.device.specs.Sectors.{waits, Sector, DiskMeaning, DiskAct, Write, sectorOf, diskMakes, anyBelow, diskRules, diskBeyond, diskBlocked, diskWord, blockOf}
 use Rattle.simulated.specs.Lists.{inside, member}
 use Rattle.simulated.specs.Natures.{takesNew}
 use Rattle.disks.specs.Rows.{sectorAt, goesBack}

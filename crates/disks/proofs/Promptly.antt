@@ -1,17 +1,16 @@
 -- A write as the patient disk does it, and then everything settled, is a write as the prompt disk does it. Assumes nothing.
-use mathlib.Core.Path.{_≡_, refl, ap, sym, _∙_}
+use mathlib.Core.Path.{_≡_, refl, ap, _∙_}
 use mathlib.Core.Bool.{Bool, true, false}
 use Prim.Native.Nat.{ℕ}
 use native.Mathlib.Omega.{arith}
 use lib.Dec.{eqb}
 use Rattle.std.specs.declared.option.Option.{Option}
 use Rattle.std.specs.declared.option.Option.the-variants.{Some, None}
-use Rattle.std.specs.declared.result.Result.{Result}
-use Rattle.std.specs.declared.result.Result.the-variants.{Ok, Err}
+use Rattle.std.specs.declared.result.Result.the-variants.{Ok}
 use Rattle.refusal.specs.declared.reason.Refusal.{Refusal}
 use Rattle.device.specs.Devices.{refusalOf}
 use Rattle.device.specs.Sectors.{DiskAct, diskRules}
-use Rattle.simulated.specs.Natures.{outcomeOf, answerOf, stateOf, answers, becomes}
+use Rattle.simulated.specs.Natures.{outcomeOf, answerOf, stateOf}
 use Rattle.disks.specs.State.{DiskState, ActsBy, patient, prompt, allSettled}
 
 module _ (a : DiskAct) (s t : DiskState) where
@@ -22,11 +21,3 @@ module _ (a : DiskAct) (s t : DiskState) where
       by-tests (Some e) z i = let n : _≡_ {A = ℕ} 0 1 = cc in absurd (omega arith)
       by-tests None true i = let n : _≡_ {A = ℕ} 0 1 = cc in absurd (omega arith)
       by-tests None false i = refl
-
-  pub refused-alike : (e : Refusal) → ActsBy (patient a) s a (Err e) t → ActsBy (prompt a) s a (Err e) t
-  refused-alike e (answer, state) = (answer, state ∙ by-tests (refusalOf diskRules (s .meaning) a) (eqb (s .left) 0) answer)
-    where
-      by-tests : (o : Option Refusal) (z : Bool) → Err e ≡ answerOf (outcomeOf o z) → stateOf (patient a) s (outcomeOf o z) ≡ stateOf (prompt a) s (outcomeOf o z)
-      by-tests (Some r) z i = refl
-      by-tests None true i = refl
-      by-tests None false i = let n : _≡_ {A = ℕ} 0 1 = cc in absurd (omega arith)

@@ -1,8 +1,8 @@
 -- Flags that say which numbers a list holds. Assumes nothing.
 use mathlib.Core.Path.{_≡_, refl, sym, ap, _∙_}
-use mathlib.Core.Bool.{Bool, true, false, not, cond, _||_, _&&_}
+use mathlib.Core.Bool.{Bool, true, false, not, cond, _||_}
 use mathlib.Core.List.{List, [], _∷_, _++_}
-use mathlib.Core.Logic.{_⊎_, inl, inr}
+use mathlib.Core.Logic.{inl, inr}
 use Prim.Native.Nat.{ℕ, zero, suc, _+_, _<_, _≤_}
 use native.Mathlib.Omega.{arith}
 use native.Mathlib.Nat.{not-suc-le-zero}
@@ -10,7 +10,7 @@ use lib.Dec.{eqb}
 use lib.ListN.{length, getD, set, take, replicate}
 use borrow.Author.Tests.{eq-eqb}
 use Rattle.std.proofs.shelf.Tests.{and-parts, not-true, cases-eq, cases-lt, ne-eqb}
-use Rattle.std.proofs.shelf.Lists.{getD-set-same, getD-set-other, getD-past, length-set, take-more}
+use Rattle.std.proofs.shelf.Lists.{getD-set-same, getD-set-other, getD-past, take-more}
 use Rattle.simulated.specs.Lists.{member, distinct}
 use Rattle.simulated.proofs.Members.{no-true, at-member, member-push, or-true, or-false}
 

@@ -1,7 +1,7 @@
 -- What follows for a simulated device from its nature. Assumes nothing.
 use mathlib.Core.Path.{_≡_, refl, sym, ap, subst, _∙_}
 use mathlib.Core.Bool.{Bool, true, false, cond}
-use mathlib.Core.Logic.{_⊎_, inl, inr}
+use mathlib.Core.Logic.{inl, inr}
 use Prim.Native.Nat.{ℕ, _-_}
 use native.Mathlib.Omega.{arith}
 use lib.Dec.{eqb}
@@ -13,10 +13,10 @@ use Rattle.refusal.specs.declared.reason.Refusal.{Refusal}
 use Rattle.refusal.specs.declared.reason.Refusal.the-variants.{Dark, Beyond, Unsettled}
 use Rattle.device.specs.declared.comeback.Comeback.{Comeback}
 use Rattle.device.specs.Pieces.{Piece, settled, presentValue, settledValue, MaySettle, ComesBack}
-use Rattle.device.specs.Devices.{Meaning, Rules, darkened, refusalOf, Acted, Restarted}
+use Rattle.device.specs.Devices.{Rules, darkened, refusalOf, Acted, Restarted}
 use Rattle.simulated.specs.declared.supply.Supply.{Supply}
 use Rattle.simulated.specs.Power.{spendAnswer, spent}
-use Rattle.simulated.specs.Natures.{Simulated, Outcome, outcomeOf, answerOf, stateOf, performedBy, answers, becomes, takesNew, returned}
+use Rattle.simulated.specs.Natures.{Simulated, outcomeOf, answerOf, stateOf, performedBy, answers, becomes, takesNew, returned}
 
 -- two simulated devices are equal if all their parts are
 pub same-state : {Mark Value : Type 0} (s t : Simulated Mark Value) → s .meaning .size ≡ t .meaning .size → s .meaning .dark ≡ t .meaning .dark

@@ -1,6 +1,6 @@
 -- The power of a simulated device: it performs a number of acts, and the next one turns it dark (without power). Assumes
 -- nothing.
-use mathlib.Core.Bool.{Bool, true, false, cond}
+use mathlib.Core.Bool.{true, false, cond}
 use Prim.Native.Nat.{ℕ, _-_}
 use lib.Dec.{eqb}
 use Rattle.std.specs.declared.result.Result.{Result}

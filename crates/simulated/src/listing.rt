@@ -1,11 +1,10 @@
 //! What is done with the list of lines or blocks.
 ghost use mathlib.Core.Path.{_≡_};
 ghost use mathlib.Core.Bool.{false};
-ghost use mathlib.Core.List.{[], _∷_};
-ghost use Prim.Native.Nat.{ℕ, _<_};
+ghost use mathlib.Core.List.{[]};
+ghost use Prim.Native.Nat.{_<_};
 ghost use lib.ListN.{length, getD};
 ghost use Rattle.std.specs.Results.{Cases};
-ghost use Rattle.std.specs.Vec.{listOf};
 ghost use Rattle.std.specs.shelf.Lists.{kept-by};
 ghost use Rattle.refusal.specs.declared.reason.Refusal.the-variants.{NoMemory};
 ghost use Rattle.simulated.specs.Lists.{member};

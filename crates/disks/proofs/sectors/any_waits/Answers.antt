@@ -1,4 +1,4 @@
-use mathlib.Core.Path.{_≡_, sym}
+use mathlib.Core.Path.{sym}
 use native.Mathlib.Omega.{arith}
 use Rattle.disks.proofs.Any.{any-zero, any-more, any-true}
 use Rattle.disks.proofs.sectors.any_waits.Needs as need

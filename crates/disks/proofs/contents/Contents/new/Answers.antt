@@ -1,8 +1,8 @@
-use mathlib.Core.Path.{_≡_, refl, ap, sym, _∙_}
-use mathlib.Core.Bool.{Bool, true, false}
+use mathlib.Core.Path.{_≡_, ap, _∙_}
+use mathlib.Core.Bool.{Bool, false}
 use mathlib.Core.List.{List}
-use Prim.Native.Nat.{ℕ, min, _*_, _/_}
-use lib.ListN.{length, getD, take}
+use Prim.Native.Nat.{ℕ, min, _*_}
+use lib.ListN.{getD, take}
 use native.Mathlib.Omega.{arith}
 use Rattle.simulated.specs.declared.supply.Supply.{Supply}
 use Rattle.disks.specs.State.{diskOf, blocksIn, madeOf}

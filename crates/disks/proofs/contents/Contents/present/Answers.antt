@@ -1,5 +1,4 @@
-use mathlib.Core.Path.{_≡_, ap, sym, _∙_}
-use mathlib.Core.Bool.{true}
+use mathlib.Core.Path.{ap, sym, _∙_}
 use Prim.Native.Nat.{_*_, _<_}
 use lib.Dec.{ltb}
 use lib.ListN.{length}

@@ -1,4 +1,4 @@
-use mathlib.Core.Path.{_≡_, refl, ap, sym, _∙_}
+use mathlib.Core.Path.{refl, ap}
 use Rattle.device.specs.Sectors.{Sync, diskRules}
 use Rattle.simulated.proofs.Laws.{performed}
 use Rattle.disks.specs.Rows.{sectorAt}

@@ -1,17 +1,16 @@
-use mathlib.Core.Path.{_≡_, refl, ap, sym, _∙_}
-use mathlib.Core.Bool.{Bool, true, false, cond}
+use mathlib.Core.Path.{_≡_, refl, ap, _∙_}
+use mathlib.Core.Bool.{Bool, false}
 use mathlib.Core.List.{List}
-use Prim.Native.Nat.{ℕ, zero, suc, min, _+_, _*_, _/_, _<_}
-use lib.ListN.{length, getD, take, replicate}
+use Prim.Native.Nat.{ℕ, zero, suc, _+_, _*_}
+use lib.ListN.{getD, take, replicate}
 use native.Mathlib.Omega.{arith}
 use Rattle.std.proofs.shelf.Lists.{length-replicate}
 use Rattle.std.proofs.shelf.Results.{cases-weaker}
 use Rattle.std.proofs.shelf.Tests.{cond-false}
 use Rattle.std.proofs.shelf.Counted.{fill-by-all, length-map-counting}
-use Rattle.device.specs.Pieces.{settled, unsettled}
-use Rattle.device.specs.Sectors.{Sector, waits, sectorOf}
+use Rattle.device.specs.Pieces.{settled}
+use Rattle.device.specs.Sectors.{sectorOf}
 use Rattle.simulated.proofs.Laws.{same-state}
-use Rattle.disks.specs.Rows.{sectorAt}
 use Rattle.disks.specs.State.{blocksIn, madeOf, blank}
 use Rattle.disks.proofs.Parts.{sector-word}
 use Rattle.disks.proofs.contents.Contents.zeroed.Needs as need

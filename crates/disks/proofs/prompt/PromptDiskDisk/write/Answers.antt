@@ -1,10 +1,10 @@
-use mathlib.Core.Path.{_≡_, refl, sym, ap, _∙_}
+use mathlib.Core.Path.{refl}
 use mathlib.Core.Logic.{inr}
-use Rattle.std.specs.declared.result.Result.the-variants.{Ok, Err}
+use Rattle.std.specs.declared.result.Result.the-variants.{Ok}
 use Rattle.device.specs.Sectors.{Write, diskRules}
 use Rattle.simulated.proofs.Laws.{acted-by}
 use Rattle.disks.specs.State.{diskState, prompt}
-use Rattle.disks.proofs.Promptly.{settled-after, refused-alike}
+use Rattle.disks.proofs.Promptly.{settled-after}
 use Rattle.disks.proofs.prompt.PromptDiskDisk.write.Needs as need
 
 pub returns : need.returns
