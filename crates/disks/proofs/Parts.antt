@@ -43,6 +43,13 @@ settled-of : (t : Bool) (a b : List ℕ) → t ≡ false → settledValue (cond 
 settled-of true a b e = absurd (true≢false e)
 settled-of false a b e = refl
 
+-- a sector by its parts
+pub same-parts : (ss ss′ ps ps′ : List ℕ) (ms ms′ : List Bool) (s : ℕ) → sectorOf ss′ s ≡ sectorOf ss s → sectorOf ps′ s ≡ sectorOf ps s → getD ms′ s false ≡ getD ms s false → sectorAt ss′ ps′ ms′ s ≡ sectorAt ss ps ms s
+same-parts ss ss′ ps ps′ ms ms′ s a b m =
+    ap (λ t. cond t (unsettled waits (sectorOf ss′ s) (sectorOf ps′ s)) (settled (sectorOf ps′ s))) m
+    ∙ ap (λ x. cond (getD ms s false) (unsettled waits x (sectorOf ps′ s)) (settled (sectorOf ps′ s))) a
+    ∙ ap (λ x. cond (getD ms s false) (unsettled waits (sectorOf ss s) x) (settled x)) b
+
 -- none of a block's sectors waits
 pub none-waits : (ms : List Bool) (b : ℕ) → anyBelow (λ k. getD ms (8 * b + k) false) 8 ≡ false → (s : ℕ) → s / 8 ≡ b → getD ms s false ≡ false
 none-waits ms b e s q =
@@ -83,9 +90,7 @@ module _ (ss ps ss′ ps′ buf : List ℕ) (ms ms′ : List Bool) (b : ℕ)
           ∙ ap (unsettled waits (settledValue (sectorAt ss ps ms s))) (same-sector ps′ buf s (s % 8) (λ i l.
           let k : 64 * s + i - 512 * b ≡ 64 * (s % 8) + i = omega arith in new-word s i true e l ∙ ap (λ n. getD buf n 0) k))
       by-test false e =
-          ap (λ t. cond t (unsettled waits (sectorOf ss′ s) (sectorOf ps′ s)) (settled (sectorOf ps′ s))) (mark s false e)
-          ∙ ap (λ x. cond (getD ms s false) (unsettled waits x (sectorOf ps′ s)) (settled (sectorOf ps′ s))) (same-sector ss′ ss s s (λ i l. old-word s i false e l))
-          ∙ ap (λ x. cond (getD ms s false) (unsettled waits (sectorOf ss s) x) (settled x)) (same-sector ps′ ps s s (λ i l. new-word s i false e l))
+          same-parts ss ss′ ps ps′ ms ms′ s (same-sector ss′ ss s s (λ i l. old-word s i false e l)) (same-sector ps′ ps s s (λ i l. new-word s i false e l)) (mark s false e)
 
 -- without its mark a sector is settled at its present words
 pub now-settled : (ss ps : List ℕ) (ms ms′ : List Bool) (s : ℕ) → getD ms′ s false ≡ false → sectorAt ss ps ms′ s ≡ settled (presentValue (sectorAt ss ps ms s))

@@ -2,7 +2,7 @@
 use mathlib.Core.Path.{_≡_}
 use mathlib.Core.Bool.{Bool, false, cond}
 use mathlib.Core.List.{List}
-use Prim.Native.Nat.{ℕ, min, _*_, _/_}
+use Prim.Native.Nat.{ℕ, min, _*_, _/_, _<_}
 use lib.Dec.{ltb}
 use lib.ListN.{length, take, replicate}
 use Rattle.std.specs.Of.Vec.{vec-items}
@@ -35,6 +35,10 @@ abbrev pub madeOf : List ℕ → List ℕ → List Bool → ℕ → DiskState
 madeOf olds news marks acts =
     let size = blocksIn olds news marks in
     diskOf size false (take (512 * size) olds) (take (512 * size) news) (take (8 * size) marks) acts
+
+-- within its size such a disk has the sectors that the lists themselves say
+abbrev pub Made-as-listed : Type 0
+Made-as-listed = (olds news : List ℕ) (marks : List Bool) (acts s : ℕ) → s < 8 * blocksIn olds news marks → madeOf olds news marks acts .meaning .piece s ≡ sectorAt olds news marks s
 
 -- a disk of zeros, all settled
 abbrev pub blank : ℕ → ℕ → DiskState
