@@ -16,6 +16,7 @@ use Rattle.simulated.specs.Natures.{Simulated, answers, becomes}
 use Rattle.disks.specs.Rows.{sectorAt}
 use Rattle.disks.specs.declared.contents.Contents.{Contents}
 
+-- a simulated disk: its meaning, sector by sector, and the acts that it has left
 abbrev pub DiskState : Type 0
 DiskState = Simulated SectorMark (List ℕ)
 
@@ -23,6 +24,7 @@ DiskState = Simulated SectorMark (List ℕ)
 abbrev pub diskOf : ℕ → Bool → List ℕ → List ℕ → List Bool → ℕ → DiskState
 diskOf size dark olds news marks acts = record { meaning = record { size = size; dark = dark; piece = sectorAt olds news marks }; left = acts }
 
+-- what the contents of a disk are
 abbrev pub diskState : Contents → DiskState
 diskState d = diskOf (d .blocks) (d .supply .dark) (vec-items (d .settled)) (vec-items (d .present)) (vec-items (d .waiting)) (d .supply .left)
 
@@ -52,7 +54,7 @@ ActsBy makes s a r t = (r ≡ answers diskRules s a) × (t ≡ becomes diskRules
 abbrev pub patient : DiskAct → ℕ → Sector → Sector
 patient a s c = diskMakes a s c
 
--- the prompt disk settles every sector at every act, the sectors just written included
+-- the prompt disk settles every sector at every performed act, the sectors just written included
 abbrev pub prompt : DiskAct → ℕ → Sector → Sector
 prompt a s c = settled (presentValue (diskMakes a s c))
 
