@@ -1,0 +1,4 @@
+pub mod Any
+pub mod Regions
+pub mod Parts
+pub mod Promptly

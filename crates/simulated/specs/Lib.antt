@@ -1,0 +1,5 @@
+pub mod Lists
+pub mod Listing
+pub mod Power
+pub mod Natures
+pub mod Lasting
