@@ -18,7 +18,7 @@ use Rattle.crash.proofs.Follow.{phase-settles}
 use Rattle.crash.proofs.Blends.{cut-phase-blends, quiet-acts-show-nothing}
 use Rattle.crash.proofs.Atomic.{sealing-is-atomic}
 use Rattle.crash.proofs.Settles.{flushes-settle-all, sync-settles-all, settling-quiet, settling-accepted}
-use Rattle.crash.proofs.Pairs.{nvm-append, disk-append, nvm-own, disk-own, nvm-none, disk-none, runs-part, cuts-part}
+use Rattle.crash.proofs.Pairs.{nvm-append, disk-append, nvm-own, disk-own, nvm-none, disk-none, runs-part, cuts-part, pair-accepts}
 
 pub rests-mixed : {Mark Value : Type 0} (c d : ℕ → Value) (m : Meaning Mark Value) → Rests c m → Mixed c d m
 rests-mixed c d m calm = ((λ i. inl (ap settledValue (calm i))), (λ i. inl (ap presentValue (calm i))))
@@ -107,10 +107,7 @@ nothing-after (x ∷ xs) = ap (λ t. x ∷ t) (nothing-after xs)
 
 pub any-devices-settle : Any-devices-settle
 any-devices-settle m ends = record {
-  accepted = record {
-    nvm = subst (Accepts nvmRules (m .nvm .size) (m .nvm .piece)) (sym nvm-part) (settling-accepted (m .nvm .size) (m .nvm .piece));
-    disk = subst (Accepts diskRules (m .disk .size) (m .disk .piece)) (sym disk-part) (refl, refl, tt);
-  };
+  accepted = pair-accepts m (settlingBoth (m .nvm .size)) (settling (m .nvm .size)) (Sync ∷ []) nvm-part disk-part (settling-accepted (m .nvm .size) (m .nvm .piece)) (refl, refl, tt);
   performed = λ n r.
       let (x, y) = runs-part (settlingBoth (m .nvm .size)) m n r in
       record {

@@ -14,7 +14,7 @@ use Rattle.device.specs.Sectors.{DiskMeaning, DiskAct, diskRules}
 use Rattle.crash.specs.Runs.{Performed, done, then, Stopped}
 use Rattle.crash.specs.Acts.{PerformedOn, HaltedOn, RanOn, Begun, Accepts}
 use Rattle.crash.specs.Keeping.{nvmKeeps, diskKeeps}
-use Rattle.crash.specs.Pair.{Pair, both, Act, onNvm, onDisk, isDark, PairPerforms, PairRefuses, PairDarkens, PerformedPair, HaltedPair, RanPair, CutPair, PairAccepts, nvmPart, diskPart}
+use Rattle.crash.specs.Pair.{Pair, both, Act, onNvm, onDisk, isDark, PairPerforms, PairRefuses, PairDarkens, PerformedPair, HaltedPair, RanPair, PairRanOrDark, CutPair, PairAccepts, nvmPart, diskPart}
 use Rattle.crash.specs.Phases.{Runs-part, Cuts-part, Only-darkness-stops-both}
 use Rattle.crash.proofs.Tame.{calmer-self, nvm-is-tame, disk-is-tame}
 use Rattle.crash.proofs.Follow.{stops-dark}
@@ -116,6 +116,18 @@ pub only-darkness-stops-both : Only-darkness-stops-both
 only-darkness-stops-both acts m n e acc k =
     let (d, i) = refused-dark m (k .middle) n (k .front) (k .act) (k .back) e (subst (PairAccepts m) (k .parts) acc) (k .ran) (k .stops) in
     (d, record { front = k .front; act = k .act; back = k .back; parts = k .parts; middle = k .middle; ran = k .ran; stops = i })
+
+pub pair-ran-or-dark : {V : Type 0} (acts : List Act) (m n : Pair) (r : Result V Refusal) → PairAccepts m acts → RanPair m acts r n → PairRanOrDark m acts r n
+pair-ran-or-dark acts m n (Ok v) acc h = h
+pair-ran-or-dark acts m n (Err e) acc h = only-darkness-stops-both acts m n e acc h
+
+-- acceptance, part by part
+pub pair-accepts : (m : Pair) (acts : List Act) (xs : List NvmAct) (ys : List DiskAct) → nvmPart acts ≡ xs → diskPart acts ≡ ys
+    → Accepts nvmRules (m .nvm .size) (m .nvm .piece) xs → Accepts diskRules (m .disk .size) (m .disk .piece) ys → PairAccepts m acts
+pair-accepts m acts xs ys e h x y = record {
+  nvm = subst (Accepts nvmRules (m .nvm .size) (m .nvm .piece)) (sym e) x;
+  disk = subst (Accepts diskRules (m .disk .size) (m .disk .piece)) (sym h) y;
+}
 
 -- a run of one device is a run of the pair
 pub nvm-performed : {acts : List NvmAct} {n k : NvmMeaning} (d : DiskMeaning) → PerformedOn nvmRules n acts k → PerformedPair (both n d) (map onNvm acts) (both k d)
