@@ -1,24 +1,23 @@
 -- What a run leaves follows from its acts. Assumes nothing.
 use mathlib.Core.Path.{_≡_, refl, sym, ap, subst, _∙_}
-use mathlib.Core.Bool.{Bool, true, false, cond}
+use mathlib.Core.Bool.{Bool, true, false}
 use mathlib.Core.List.{List, [], _∷_, _++_}
-use mathlib.Core.Logic.{_⊎_, inl, inr}
 use Prim.Native.Nat.{ℕ}
 use native.Mathlib.Omega.{arith}
 use Rattle.std.specs.declared.result.Result.{Result}
 use Rattle.std.specs.declared.result.Result.the-variants.{Ok, Err}
 use Rattle.refusal.specs.declared.reason.Refusal.{Refusal}
 use Rattle.refusal.specs.declared.reason.Refusal.the-variants.{Dark}
-use Rattle.device.specs.Pieces.{Piece, settled, unsettled, settledValue, presentValue, isUnsettled, MaySettle, ComesBack}
-use Rattle.device.specs.Devices.{Meaning, Rules, darkened, Performs, Refuses, Restarted}
-use Rattle.crash.specs.Runs.{Performed, done, then, Stopped, Each}
-use Rattle.crash.specs.Acts.{PerformedOn, HaltedOn, RanOn, RanOrDark, CutOn, Begun, contents, Rests, Blend, Mixed, made, Calmer, Leads, Spares, Accepts}
-use Rattle.crash.specs.Keeping.{Tame, kept, Brings, Quiet}
+use Rattle.device.specs.Pieces.{Piece, settled, unsettled, presentValue, isUnsettled}
+use Rattle.device.specs.Devices.{Meaning, Rules, darkened, Performs, Refuses}
+use Rattle.crash.specs.Runs.{done, then}
+use Rattle.crash.specs.Acts.{PerformedOn, HaltedOn, RanOn, RanOrDark, CutOn, Begun, Rests, made, Calmer, Leads, Spares, Accepts}
+use Rattle.crash.specs.Keeping.{Tame, kept}
 use Rattle.crash.specs.Narrow.{Size-stays-in-runs, Dark-runs-nothing, Untouched-stays}
 use Rattle.crash.specs.Crash.{Runs-have-begun, Untouched-outlasts, Marks-follow, Phase-settles, Only-darkness-stops, Contents-follow}
-use Rattle.crash.proofs.Runs.{performed-split, each-append, each-front}
+use Rattle.crash.proofs.Runs.{each-front}
 use Rattle.crash.proofs.Tame.{calmer-self, calmer-present, calmer-settled}
-use Rattle.crash.proofs.Steps.{may-present, may-calmer, may-settled, settled-is, back-settled, back-rests, restart-settles, refusals-move-nothing, refusals-keep-size, dark-stays-dark, only-dark}
+use Rattle.crash.proofs.Steps.{may-present, may-calmer, may-settled, settled-is, back-settled, refusals-move-nothing, refusals-keep-size, dark-stays-dark, only-dark}
 
 -- lists of acts, one after another
 module _ {Act Mark Value : Type 0} (rules : Rules Act Mark Value) where

@@ -1,18 +1,17 @@
 -- Phases of one device of a pair. Assumes nothing.
-use mathlib.Core.Path.{_≡_, refl, sym, ap, subst, _∙_}
+use mathlib.Core.Path.{_≡_, refl, ap, subst, _∙_}
 use mathlib.Core.List.{List, [], _∷_, _++_, map}
-use mathlib.Core.Logic.{_⊎_, inl, inr}
-use Prim.Native.Nat.{ℕ, _*_, _≤_}
-use mathlib.Core.Bool.{false}
-use Rattle.device.specs.Pieces.{settled, settledValue, presentValue, isUnsettled, ComesBack}
-use Rattle.device.specs.Devices.{Meaning, Rules, Restarted}
+use mathlib.Core.Logic.{inl, inr}
+use Prim.Native.Nat.{ℕ}
+use Rattle.device.specs.Pieces.{settled, settledValue, presentValue, ComesBack}
+use Rattle.device.specs.Devices.{Meaning, Restarted}
 use Rattle.device.specs.Words.{NvmMeaning, NvmAct, wordsOf, nvmRules}
 use Rattle.device.specs.Sectors.{DiskMeaning, DiskAct, Sync, sectorsOf, diskRules}
-use Rattle.crash.specs.Acts.{PerformedOn, Begun, contents, Rests, Blend, Mixed, Leads, Accepts}
-use Rattle.crash.specs.Keeping.{nvmKeeps, diskKeeps, Brings, Quiet}
+use Rattle.crash.specs.Acts.{PerformedOn, Begun, Rests, Mixed, Leads}
+use Rattle.crash.specs.Keeping.{nvmKeeps, diskKeeps, Brings}
 use Rattle.crash.specs.Rows.{sealing, settling}
-use Rattle.crash.specs.Pair.{Pair, Act, onNvm, onDisk, PerformedPair, CutPair, PairRestarted, PairRests, PairAccepts, nvmPart, diskPart, settlingBoth}
-use Rattle.crash.specs.Phases.{Returns, SettlesBoth, Nvm-phase-settles, Nvm-phase-blends, Disk-phase-settles, Disk-phase-blends, Sealing-both-is-atomic, Any-devices-settle}
+use Rattle.crash.specs.Pair.{Pair, onNvm, onDisk, PerformedPair, CutPair, PairRestarted, PairRests, nvmPart, diskPart, settlingBoth}
+use Rattle.crash.specs.Phases.{Returns, Nvm-phase-settles, Nvm-phase-blends, Disk-phase-settles, Disk-phase-blends, Sealing-both-is-atomic, Any-devices-settle}
 use Rattle.crash.proofs.Tame.{nvm-is-tame, disk-is-tame}
 use Rattle.crash.proofs.Follow.{phase-settles}
 use Rattle.crash.proofs.Blends.{cut-phase-blends, quiet-acts-show-nothing}

@@ -2,19 +2,17 @@
 use mathlib.Core.Path.{_≡_, refl, sym, ap, subst, _∙_}
 use mathlib.Core.Bool.{Bool, true, false, _||_}
 use mathlib.Core.List.{List, [], _∷_, _++_, map}
-use mathlib.Core.Logic.{_⊎_, inl, inr}
 use Prim.Native.Nat.{ℕ}
 use Rattle.std.specs.declared.result.Result.{Result}
 use Rattle.std.specs.declared.result.Result.the-variants.{Ok, Err}
 use Rattle.refusal.specs.declared.reason.Refusal.{Refusal}
 use Rattle.refusal.specs.declared.reason.Refusal.the-variants.{Dark}
-use Rattle.device.specs.Devices.{Meaning, darkened, Performs, Refuses}
 use Rattle.device.specs.Words.{NvmMeaning, NvmAct, nvmRules}
 use Rattle.device.specs.Sectors.{DiskMeaning, DiskAct, diskRules}
-use Rattle.crash.specs.Runs.{Performed, done, then, Stopped}
-use Rattle.crash.specs.Acts.{PerformedOn, HaltedOn, RanOn, Begun, Accepts}
+use Rattle.crash.specs.Runs.{done, then}
+use Rattle.crash.specs.Acts.{PerformedOn, RanOn, Accepts}
 use Rattle.crash.specs.Keeping.{nvmKeeps, diskKeeps}
-use Rattle.crash.specs.Pair.{Pair, both, Act, onNvm, onDisk, isDark, PairPerforms, PairRefuses, PairDarkens, PerformedPair, HaltedPair, RanPair, PairRanOrDark, CutPair, PairAccepts, nvmPart, diskPart}
+use Rattle.crash.specs.Pair.{Pair, both, Act, onNvm, onDisk, isDark, PairRefuses, PairDarkens, PerformedPair, RanPair, PairRanOrDark, PairAccepts, nvmPart, diskPart}
 use Rattle.crash.specs.Phases.{Runs-part, Cuts-part, Only-darkness-stops-both}
 use Rattle.crash.proofs.Tame.{calmer-self, nvm-is-tame, disk-is-tame}
 use Rattle.crash.proofs.Follow.{stops-dark}

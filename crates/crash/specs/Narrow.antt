@@ -5,13 +5,13 @@ use mathlib.Core.Bool.{Bool, true, false}
 use mathlib.Core.List.{List}
 use Prim.Native.Nat.{ℕ, _/_, _%_}
 use Rattle.std.specs.declared.result.Result.{Result}
-use Rattle.std.specs.declared.result.Result.the-variants.{Ok, Err}
+use Rattle.std.specs.declared.result.Result.the-variants.{Err}
 use Rattle.refusal.specs.declared.reason.Refusal.{Refusal}
 use Rattle.refusal.specs.declared.reason.Refusal.the-variants.{Dark}
-use Rattle.device.specs.Pieces.{settled, unsettled, presentValue, isUnsettled}
+use Rattle.device.specs.Pieces.{settled, unsettled, isUnsettled}
 use Rattle.device.specs.Devices.{Meaning, Rules, Performs, Refuses, Acted, Restarted}
-use Rattle.device.specs.Words.{NvmMeaning, NvmAct, Store, Fence, flushed, wordsOf, nvmRules}
-use Rattle.device.specs.Sectors.{DiskMeaning, DiskAct, Write, Sync, sectorOf, sectorsOf, diskRules}
+use Rattle.device.specs.Words.{NvmMeaning, Store, Fence, flushed, wordsOf, nvmRules}
+use Rattle.device.specs.Sectors.{DiskMeaning, Write, Sync, sectorOf, sectorsOf, diskRules}
 use Rattle.crash.specs.Acts.{RanOn, Begun, contents, Rests, Spares}
 
 -- after a performed fence a word that was flushed is settled at its present value

@@ -1,13 +1,13 @@
 -- Both devices at once: a non-volatile memory and a disk. Assumes nothing.
 use mathlib.Core.Path.{_≡_}
-use mathlib.Core.Bool.{Bool, true, false, _||_}
+use mathlib.Core.Bool.{Bool, _||_}
 use mathlib.Core.List.{List, [], _∷_, _++_, map}
 use Prim.Native.Nat.{ℕ}
 use Rattle.std.specs.declared.result.Result.{Result}
 use Rattle.std.specs.declared.result.Result.the-variants.{Ok, Err}
 use Rattle.refusal.specs.declared.reason.Refusal.{Refusal}
 use Rattle.refusal.specs.declared.reason.Refusal.the-variants.{Dark}
-use Rattle.device.specs.Devices.{Meaning, darkened, Performs, Refuses, Restarted}
+use Rattle.device.specs.Devices.{darkened, Performs, Refuses, Restarted}
 use Rattle.device.specs.Words.{NvmMeaning, NvmAct, nvmRules}
 use Rattle.device.specs.Sectors.{DiskMeaning, DiskAct, Sync, diskRules}
 use Rattle.crash.specs.Runs.{Performed, Stopped, Halted, Ran}

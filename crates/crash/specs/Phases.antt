@@ -1,7 +1,7 @@
 -- What runs, cuts and restarts leave of both devices at once, where a phase touches one device. Assumes nothing.
 use mathlib.Core.Path.{_≡_}
 use mathlib.Core.Bool.{Bool, true, false}
-use mathlib.Core.List.{List, [], _∷_, _++_, map}
+use mathlib.Core.List.{List, _++_, map}
 use mathlib.Core.Logic.{_⊎_}
 use Prim.Native.Nat.{ℕ, _*_, _≤_}
 use Rattle.refusal.specs.declared.reason.Refusal.{Refusal}
