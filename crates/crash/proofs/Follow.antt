@@ -82,8 +82,11 @@ module _ {Act Mark Value : Type 0} (rules : Rules Act Mark Value) where
   pub runs-have-begun : Runs-have-begun rules
   runs-have-begun acts m n = ((λ r. performed-begun r), (λ c. cut-begun c), (λ e h. halted-begun e h))
 
+  pub begun-size : {acts : List Act} {m n : Meaning Mark Value} → Begun rules m acts n → n .size ≡ m .size
+  begun-size b = b .size ∙ run-size (b .ran)
+
   pub size-stays-in-runs : Size-stays-in-runs rules
-  size-stays-in-runs acts m n b = b .size ∙ run-size (b .ran)
+  size-stays-in-runs acts m n b = begun-size b
 
   -- a dark device performs nothing
   dark-performed : {acts : List Act} {m n : Meaning Mark Value} → m .dark ≡ true → PerformedOn rules m acts n → n ≡ m
