@@ -75,7 +75,7 @@ Calmer c (settled v) = presentValue c ≡ v
 Calmer (settled x) (unsettled k s p) = ⊥
 Calmer (unsettled j r q) (unsettled k s p) = (j ≡ k) × (q ≡ p)
 
--- The acts are a phase from contents c to contents d: where everything is settled at c, they leave everything settled at d.
+-- the acts lead from contents c to contents d: where everything is settled at c, they leave everything settled at d
 abbrev pub Leads : {Act Mark Value : Type 0} → Rules Act Mark Value → (ℕ → Value) → List Act → (ℕ → Value) → Type 0
 Leads rules c acts d = (i : ℕ) → made rules acts i (settled (c i)) ≡ settled (d i)
 
