@@ -11,9 +11,9 @@ use Rattle.crash.specs.Acts.{PerformedOn, Begun, Rests, Mixed, Leads}
 use Rattle.crash.specs.Keeping.{nvmKeeps, diskKeeps, Brings}
 use Rattle.crash.specs.Rows.{sealing, settling}
 use Rattle.crash.specs.Pair.{Pair, onNvm, onDisk, PerformedPair, CutPair, PairRestarted, PairRests, nvmPart, diskPart, settlingBoth}
-use Rattle.crash.specs.Phases.{Returns, Nvm-phase-settles, Nvm-phase-blends, Disk-phase-settles, Disk-phase-blends, Sealing-both-is-atomic, Any-devices-settle}
+use Rattle.crash.specs.Phases.{Untouched-outlasts-both, Returns, Nvm-phase-settles, Nvm-phase-blends, Disk-phase-settles, Disk-phase-blends, Sealing-both-is-atomic, Any-devices-settle}
 use Rattle.crash.proofs.Tame.{nvm-is-tame, disk-is-tame}
-use Rattle.crash.proofs.Follow.{phase-settles}
+use Rattle.crash.proofs.Follow.{untouched-outlasts, phase-settles}
 use Rattle.crash.proofs.Blends.{cut-phase-blends, quiet-acts-show-nothing}
 use Rattle.crash.proofs.Atomic.{sealing-is-atomic}
 use Rattle.crash.proofs.Settles.{flushes-settle-all, sync-settles-all, settling-quiet, settling-accepted}
@@ -66,6 +66,13 @@ returned c d e f xs ys m n p calm bs cs x y again =
     let (nvm-rests, nvm-blend) = cut-phase-blends nvmRules nvmKeeps nvm-is-tame c d xs (m .nvm) (n .nvm) (p .nvm) (rests-mixed c d (m .nvm) (calm .nvm)) bs x (again .nvm) in
     let (disk-rests, disk-blend) = cut-phase-blends diskRules diskKeeps disk-is-tame e f ys (m .disk) (n .disk) (p .disk) (rests-mixed e f (m .disk) (calm .disk)) cs y (again .disk) in
     record { rests = record { nvm = nvm-rests; disk = disk-rests }; words = nvm-blend; sectors = disk-blend }
+
+pub untouched-outlasts-both : Untouched-outlasts-both
+untouched-outlasts-both S T acts m n p calm quiet sp sq k again =
+    let (d, x, y) = cuts-part acts m n k in (
+      untouched-outlasts nvmRules S (nvmPart acts) (m .nvm) (n .nvm) (p .nvm) calm sp x (again .nvm),
+      untouched-outlasts diskRules T (diskPart acts) (m .disk) (n .disk) (p .disk) quiet sq y (again .disk),
+    )
 
 pub nvm-phase-settles : Nvm-phase-settles
 nvm-phase-settles c d e acts m n calm leads r =

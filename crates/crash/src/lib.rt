@@ -7,7 +7,7 @@ ghost use mathlib.Core.List.{List};
 ghost use Rattle.crash.specs.Crash.{Runs-have-begun, Untouched-outlasts, Marks-follow, Phase-settles, Only-darkness-stops, Contents-follow, Cut-phase-blends, Quiet-acts-show-nothing, Sealing-is-atomic, Flushes-settle-all, Sync-settles-all};
 ghost use Rattle.crash.specs.Keeping.{Nvm-is-tame, Disk-is-tame, nvmKeeps, diskKeeps};
 ghost use Rattle.crash.specs.Narrow.{Fence-settles, Sync-settles, Store-shows, Write-shows, Settling-is-done, Nothing-else-moves, Refusals-move-nothing, Size-stays, Dark-stays-dark, Untouched-stays, Size-stays-in-runs, Dark-runs-nothing, Restart-settles};
-ghost use Rattle.crash.specs.Phases.{Runs-part, Cuts-part, Only-darkness-stops-both, Nvm-phase-settles, Nvm-phase-blends, Disk-phase-settles, Disk-phase-blends, Sealing-both-is-atomic, Any-devices-settle};
+ghost use Rattle.crash.specs.Phases.{Runs-part, Cuts-part, Only-darkness-stops-both, Untouched-outlasts-both, Nvm-phase-settles, Nvm-phase-blends, Disk-phase-settles, Disk-phase-blends, Sealing-both-is-atomic, Any-devices-settle};
 ghost use Rattle.crash.specs.Rows.{Stores-are-a-phase, Writes-are-a-phase, Sealing-is-a-phase, Unstored-is-spared, Unwritten-is-spared};
 
 /// Both kinds of device keep what every law below rests on.
@@ -99,6 +99,7 @@ pub fn pair_outlasts_cuts() -> u8
     ensures runs { λ _. ⌜ Runs-part ⌝ }
     ensures cuts { λ _. ⌜ Cuts-part ⌝ }
     ensures stops { λ _. ⌜ Only-darkness-stops-both ⌝ }
+    ensures untouched { λ _. ⌜ Untouched-outlasts-both ⌝ }
     ensures words { λ _. ⌜ Nvm-phase-settles ⌝ }
     ensures wordsCut { λ _. ⌜ Nvm-phase-blends ⌝ }
     ensures sectors { λ _. ⌜ Disk-phase-settles ⌝ }
