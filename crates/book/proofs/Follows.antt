@@ -18,14 +18,14 @@ use Rattle.ringlaws.specs.Layout.{recordsOf}
 use Rattle.ringlaws.specs.TxnInfo.{Transaction}
 use Rattle.ringlaws.specs.Spells.{Spells, AllFair, Fair, written}
 use Rattle.ringlaws.specs.Newest.{settingOf, latest, lay, laid, orElse}
-use Rattle.ringlaws.proofs.Seek.{latest-push, laid-is-the-latest}
 use Rattle.calls.specs.declared.state.State.{State}
 use Rattle.calls.specs.declared.state.State.the-variants.{Unmounted}
 use Rattle.calls.specs.declared.call.Call.{Call}
 use Rattle.calls.specs.declared.answer.Answer.{Answer}
 use Rattle.calls.specs.Table.{zeroUnit}
 use Rattle.calls.specs.Plans.{Machine, Kind, placesOf, blocksOf}
-use Rattle.calllaws.specs.Holds.{Ready, Holds, Keeps}
+use Rattle.calllaws.specs.Holds.{Keeps}
+use Rattle.calllaws.proofs.Commits.{laid-push}
 use Rattle.book.specs.Book.{Book, next}
 use Rattle.book.specs.Commits.{Fate, done as accepted, cutOff, Tally, tallyCall, Kept, none, takes, leaves, WholeAndInOrder}
 use Rattle.book.specs.Promise.{Right}
@@ -76,18 +76,6 @@ pub data Follows {R : Type 0} (kind : Kind R) (N B : ℕ) (m : Machine) (b : Boo
 abbrev pub Owes : {R : Type 0} → Kind R → ℕ → ℕ → Machine → Book → Tally → Call R → Machine → Answer R → Type 0
 Owes kind N B m b t call n a =
     Right kind (placesOf m) (blocksOf m) b (t .lying) call a × Follows kind N B n (next kind b call a) (tallyCall kind t call a)
-
--- one transaction more over laid ones
-or-else : (o p : Option (List ℕ)) (home : List ℕ) → valueOr (orElse o p) home ≡ valueOr o (valueOr p home)
-or-else None p home = refl
-or-else (Some x) p home = refl
-
-pub laid-push : (ts : List Transaction) (t : Transaction) (homes : ℕ → List ℕ) (r : ℕ) → laid (ts ++ t ∷ []) homes r ≡ lay t (laid ts homes) r
-laid-push ts t homes r =
-    laid-is-the-latest (ts ++ t ∷ []) homes r
-    ∙ ap (λ (o : Option (List ℕ)). valueOr o (homes r)) (latest-push ts t r)
-    ∙ or-else (settingOf t r) (latest ts r) (homes r)
-    ∙ ap (valueOr (settingOf t r)) (sym (laid-is-the-latest ts homes r))
 
 kept-takes : (fate : Fate) (t : Transaction) {cs : List (Fate × Transaction)} {ts : List Transaction} → Kept cs ts → Kept (cs ++ (fate, t) ∷ []) (ts ++ t ∷ [])
 kept-takes fate t none = takes none

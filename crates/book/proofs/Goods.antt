@@ -23,62 +23,8 @@ use Rattle.calls.specs.declared.answer.Answer.{Answer}
 use Rattle.calls.specs.declared.answer.Answer.the-variants.{Refused, Absent, Found}
 use Rattle.calls.specs.Table.{zeroUnit}
 use Rattle.calls.specs.Plans.{Kind, put, mayPut, setRefusal, readBy, readUnit}
+use Rattle.order.proofs.Settings.{put-again, put-new, below-snoc, distinct-snoc}
 use Rattle.book.specs.Promise.{Lawful}
-
--- record r was set already: the numbers stay; else it comes last
-put-again : (t : Transaction) (r : ℕ) (u : List ℕ) → member r (numbersOf t) ≡ true → numbersOf (put t r u) ≡ numbersOf t
-unfolding put member
-put-again [] r u h = absurd (both-ways false refl h)
-put-again (s ∷ t) r u h =
-    elim (cases-bool (eqb r (s .number))) [
-      | inl e ↦
-          ap numbersOf (cond-true (eqb r (s .number)) (record { number = r; unit = u } ∷ t) (s ∷ put t r u) e)
-          ∙ ap (λ (n : ℕ). n ∷ numbersOf t) (eqb-true r (s .number) e)
-      | inr e ↦
-          ap numbersOf (cond-false (eqb r (s .number)) (record { number = r; unit = u } ∷ t) (s ∷ put t r u) e)
-          ∙ ap (λ (ns : List ℕ). s .number ∷ ns) (put-again t r u (subst (λ (b : Bool). b || member r (numbersOf t) ≡ true) e h))
-    ]
-
-put-new : (t : Transaction) (r : ℕ) (u : List ℕ) → member r (numbersOf t) ≡ false → numbersOf (put t r u) ≡ numbersOf t ++ r ∷ []
-unfolding put member
-put-new [] r u h = refl
-put-new (s ∷ t) r u h =
-    elim (cases-bool (eqb r (s .number))) [
-      | inl e ↦ absurd (both-ways (eqb r (s .number)) (or-parts (eqb r (s .number)) (member r (numbersOf t)) h .0) e)
-      | inr e ↦
-          ap numbersOf (cond-false (eqb r (s .number)) (record { number = r; unit = u } ∷ t) (s ∷ put t r u) e)
-          ∙ ap (λ (ns : List ℕ). s .number ∷ ns) (put-new t r u (subst (λ (b : Bool). b || member r (numbersOf t) ≡ false) e h))
-    ]
-
-below-snoc : (limit : ℕ) (ns : List ℕ) (r : ℕ) → allBelow limit ns ≡ true → ltb r limit ≡ true → allBelow limit (ns ++ r ∷ []) ≡ true
-unfolding allBelow
-below-snoc limit [] r h k = and-from (ltb r limit) true k refl
-below-snoc limit (n ∷ ns) r h k =
-    let p = and-parts (ltb n limit) (allBelow limit ns) h in
-    and-from (ltb n limit) (allBelow limit (ns ++ r ∷ [])) (p .0) (below-snoc limit ns r (p .1) k)
-
-member-snoc : (x : ℕ) (ns : List ℕ) (r : ℕ) → member x ns ≡ false → eqb x r ≡ false → member x (ns ++ r ∷ []) ≡ false
-unfolding member
-member-snoc x [] r h k = or-from (eqb x r) false k refl
-member-snoc x (n ∷ ns) r h k =
-    let p = or-parts (eqb x n) (member x ns) h in
-    or-from (eqb x n) (member x (ns ++ r ∷ [])) (p .0) (member-snoc x ns r (p .1) k)
-
-apart : (x r : ℕ) (ns : List ℕ) → eqb r x || member r ns ≡ false → eqb x r ≡ false
-apart x r ns h =
-    elim (cases-bool (eqb x r)) [
-      | inl e ↦ absurd (both-ways (eqb r x) (or-parts (eqb r x) (member r ns) h .0) (eq-eqb r x (sym (eqb-true x r e))))
-      | inr e ↦ e
-    ]
-
-distinct-snoc : (ns : List ℕ) (r : ℕ) → distinct ns ≡ true → member r ns ≡ false → distinct (ns ++ r ∷ []) ≡ true
-unfolding distinct member
-distinct-snoc [] r h k = refl
-distinct-snoc (n ∷ ns) r h k =
-    let p = and-parts (not (member n ns)) (distinct ns) h in
-    and-from (not (member n (ns ++ r ∷ []))) (distinct (ns ++ r ∷ []))
-    (ap not (member-snoc n ns r (not-true (member n ns) (p .0)) (apart n r ns k)))
-    (distinct-snoc ns r (p .1) (or-parts (eqb r n) (member r ns) k .1))
 
 -- a unit that is zero or of the kind
 abbrev pub Readable : {R : Type 0} → Kind R → List ℕ → Type 0

@@ -1,4 +1,3 @@
-pub mod Own
 pub mod Goods
 pub mod Follows
 pub mod Went

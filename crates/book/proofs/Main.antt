@@ -20,7 +20,6 @@ use Rattle.device.specs.Sectors.{diskRules, sectorsOf}
 use Rattle.crash.specs.Acts.{Rests, contents}
 use Rattle.crash.specs.Pair.{Pair, isDark, PairRestarted, PairRests, PerformedPair}
 use Rattle.crash.proofs.Steps.{back-settled}
-use Rattle.crash.proofs.Pairs.{runs-part, cuts-part}
 use Rattle.ringlaws.specs.Layout.{recordsOf, leastPlaces, mostPlaces, mostBlocks}
 use Rattle.ringlaws.specs.TxnInfo.{Transaction}
 use Rattle.ringlaws.specs.Newest.{lay, laid}
@@ -45,10 +44,11 @@ use Rattle.book.specs.Book.{Book, blank, next, restarted, isCommit, bookRead, 
 use Rattle.book.specs.Runs.{Event, called, restart, Run, start, asked, returned, isFormat, isKept, sameBelow}
 use Rattle.book.specs.Commits.{Fate, cutOff, commitsAfter, Tally, noTally, tallyCall, tallyEvent, tallyFrom, tally, Kept, none, WholeAndInOrder}
 use Rattle.book.specs.Promise.{Lawful, Right, Promised, Every-run-keeps-the-book}
-use Rattle.book.proofs.Own.{Own, own, ownPlaces, ownBlocks, places-is, blocks-is}
+use Rattle.order.proofs.Own.{own, blocks-is, ring-is}
+use Rattle.order.proofs.Performed.{stays-lit}
 use Rattle.book.proofs.Goods.{Readable, EachReadable, Good, good-none, lay-readable, never-foreign}
 use Rattle.book.proofs.Follows.{live, tallied, Live, Gone, Follows, lives, gone, Owes}
-use Rattle.book.proofs.Went.{machine, ring-is, follow, went-step, stays-lit}
+use Rattle.book.proofs.Went.{follow, went-step}
 use Rattle.book.proofs.WentDark.{died}
 
 -- two tables that are the same below n
@@ -122,12 +122,12 @@ module _ {R : Type 0} (kind : Kind R) (lawful : Lawful kind) (N B : ℕ) where
   step m n b t call a f (lives v) (went w) =
       subst (λ (x : Book). Owes kind N B m x t call n a) (sym (v .book))
       (subst (λ (y : Tally). Owes kind N B m (live (v .units) (m .state) (m .list)) y call n a) (sym (v .tally))
-      (went-step kind lawful runs-part N B (m .devices) (v .ring) (v .units) (v .keeps) (v .lit) (v .readable) commits-are-atomic checkpoints-keep-the-table mounts-keep-the-table
+      (went-step kind lawful N B (m .devices) (v .ring) (v .units) (v .keeps) (v .lit) (v .readable) commits-are-atomic checkpoints-keep-the-table mounts-keep-the-table
       (m .list) (v .cs) (v .ly) (v .good) (v .commits) (m .state) call f (v .lying) a n w))
   step m n b t call a f (lives v) (went-dark w) =
       subst (λ (x : Book). Owes kind N B m x t call n a) (sym (v .book))
       (subst (λ (y : Tally). Owes kind N B m (live (v .units) (m .state) (m .list)) y call n a) (sym (v .tally))
-      (died kind lawful runs-part cuts-part N B (m .devices) (v .ring) (v .units) (v .keeps) (v .lit) (v .readable)
+      (died kind lawful N B (m .devices) (v .ring) (v .units) (v .keeps) (v .lit) (v .readable)
       (m .list) (v .cs) (v .ly) (v .good) (v .commits) commits-are-atomic checkpoints-keep-the-table mounts-keep-the-table (m .state) call f a n w))
   step m n b t call a f (gone v) (was-dark w) =
       subst (Owes kind N B m b t call n) (sym (w .says)) (
@@ -187,12 +187,12 @@ module _ {R : Type 0} (kind : Kind R) (lawful : Lawful kind) (N B : ℕ) where
 
       as-it-was : Keeps N B (n .devices) (k .ts) (b .units) → Follows kind N B n (live (b .units) Unmounted []) (tallied [] (t .commits) (t .lying))
       as-it-was held =
-          follow kind lawful runs-part N B n (b .units) Unmounted [] (k .ts) (t .commits) (t .lying) (lit-again (n .devices) (m .devices) (r .devices)) (r .state) (r .list) held
+          follow kind lawful N B n (b .units) Unmounted [] (k .ts) (t .commits) (t .lying) (lit-again (n .devices) (m .devices) (r .devices)) (r .state) (r .list) held
           (λ h. absurd (h refl)) (good-none kind B) (k .readable) (k .without)
 
       with-commit : b .cut ≡ true → Keeps N B (n .devices) (k .ts) laid-over → Follows kind N B n (live laid-over Unmounted []) (tallied [] (t .commits) (t .lying))
       with-commit c held =
-          follow kind lawful runs-part N B n laid-over Unmounted [] (k .ts) (t .commits) (t .lying) (lit-again (n .devices) (m .devices) (r .devices)) (r .state) (r .list) held
+          follow kind lawful N B n laid-over Unmounted [] (k .ts) (t .commits) (t .lying) (lit-again (n .devices) (m .devices) (r .devices)) (r .state) (r .list) held
           (λ h. absurd (h refl)) (good-none kind B) (lay-readable kind lawful (b .list) (b .units) (k .good) (k .readable)) (k .with-it c)
 
       old-kept : Keeps N B (n .devices) (k .ts) (b .units) ⊎ ((b .cut ≡ true) × Keeps N B (n .devices) (k .ts) laid-over) → isKept b n ≡ true → Keeps N B (n .devices) (k .ts) laid-over
@@ -303,7 +303,7 @@ module _ {R : Type 0} (kind : Kind R) (lawful : Lawful kind) (m₀ m₁ : Machin
   formatted : isDark (m₀ .devices) ≡ false → fitSizes (m₀ .devices .nvm .size) B ≡ true → PerformedPair (m₀ .devices) (formatActs N B) (m₁ .devices) → m₁ .state ≡ Unmounted → m₁ .list ≡ []
       → Follows kind N B m₁ blank noTally
   formatted lit h p s l =
-      follow kind lawful runs-part N B m₁ (λ r. zeroUnit) Unmounted [] [] [] [] (stays-lit runs-part (formatActs N B) (m₀ .devices) (m₁ .devices) lit p) s l
+      follow kind lawful N B m₁ (λ r. zeroUnit) Unmounted [] [] [] [] (stays-lit (formatActs N B) (m₀ .devices) (m₁ .devices) lit p) s l
       (formats-make-an-empty-store N B (m₀ .devices) (any-contents h) .1 (m₁ .devices) p) (λ e. refl) (good-none kind B) (λ r. inl refl)
       (record { there = []; kept = none; same = λ r lt. sym (laid-nothing r) })
 

@@ -16,10 +16,7 @@ use Rattle.refusal.specs.declared.reason.Refusal.the-variants.{Dark, NoSuchReco
 use Rattle.refusal.specs.Numbers.{numberOf}
 use Rattle.device.specs.Words.{nvmRules}
 use Rattle.device.specs.Sectors.{diskRules}
-use Rattle.crash.specs.Runs.{Performed, done, then}
 use Rattle.crash.specs.Pair.{Pair, Act, isDark, PerformedPair, settlingBoth}
-use Rattle.crash.specs.Phases.{Runs-part}
-use Rattle.crash.proofs.Follow.{run-power}
 use Rattle.ringlaws.specs.declared.setting.Setting.{Setting}
 use Rattle.ringlaws.specs.Layout.{recordsOf, headOf, tailOf, used, groundWord, groundMark, placesWord, blocksWord, leastPlaces, mostPlaces, mostBlocks}
 use Rattle.ringlaws.specs.TxnInfo.{Transaction, taken, infoLength, allZero}
@@ -46,19 +43,11 @@ use Rattle.book.specs.Book.{Book, next, accepted, refused, bookRead, readIn}
 use Rattle.book.specs.Runs.{isFormat}
 use Rattle.book.specs.Commits.{Fate, done as whole, cutOff, Tally, tallyCall, placesTaken, andNonempty, WholeAndInOrder, settingsAfter, lyingAfter, commitsAfter}
 use Rattle.book.specs.Promise.{Lawful, Right, ByState, Expected, doneUnless, noRoom}
-use Rattle.book.proofs.Own.{Own, own, ownPlaces, ownBlocks, ownWords, ownSectors, places-is, blocks-is}
+use Rattle.order.proofs.Own.{Own, own, ownPlaces, ownBlocks, ownWords, ownSectors, places-is, blocks-is, ring-is}
+use Rattle.order.proofs.Performed.{performed-none, stays-lit}
+use Rattle.order.proofs.Settings.{set-passes}
 use Rattle.book.proofs.Goods.{Readable, EachReadable, Good, good-none, put-good, good-fair, lay-readable}
 use Rattle.book.proofs.Follows.{live, tallied, Live, Follows, lives, Owes, commit-takes}
-
--- nothing performed is nothing changed
-pub performed-none : {m n : Pair} → PerformedPair m [] n → n ≡ m
-performed-none done = refl
-
--- the ring of a store that keeps these transactions is these
-pub ring-is : (d : Pair) (ts : List Transaction) (units : ℕ → List ℕ) → Own d ts units → ringOf (ownPlaces d) (ownBlocks d) (ownWords d) ≡ ts
-ring-is d ts units o =
-    let h = o .holds in
-    ap transactionsOf (sound-exactly-if-spelled (ownPlaces d) (ownBlocks d) (ownWords d) (headOf (ownWords d)) (tailOf (ownWords d)) (h .head) (h .tail) ts .1 (h .spells))
 
 -- the places that fair transactions take are the units that they are written as
 taken-written : (B : ℕ) (ts : List Transaction) → AllFair B ts → placesTaken ts ≡ length (written ts)
@@ -112,14 +101,6 @@ set-number B l r e h = go (ltb r (recordsOf B)) (mayPut l r) h
     go true false h = let z : TooManyRecords ≡ e = cc in ap (λ (x : Refusal). eqb (numberOf x) 5) (sym z)
     go false y h = let z : NoSuchRecord ≡ e = cc in ap (λ (x : Refusal). eqb (numberOf x) 5) (sym z)
 
-set-passes : (B : ℕ) (l : Transaction) (r : ℕ) → setRefusal B l r ≡ None → (ltb r (recordsOf B) ≡ true) × (mayPut l r ≡ true)
-set-passes B l r h = go (ltb r (recordsOf B)) (mayPut l r) h
-  where
-    go : (x y : Bool) → cond x (cond y None (Some TooManyRecords)) (Some NoSuchRecord) ≡ None → (x ≡ true) × (y ≡ true)
-    go true true h = (refl, refl)
-    go true false h = let z : _≡_ {A = ℕ} 0 1 = cc in absurd (omega arith)
-    go false y h = let z : _≡_ {A = ℕ} 0 1 = cc in absurd (omega arith)
-
 lay-none : (units : ℕ → List ℕ) → lay [] units ≡ units
 unfolding settingOf
 lay-none units = refl
@@ -130,13 +111,7 @@ idle-mounted e = let z : _≡_ {A = ℕ} 0 1 = cc in omega arith
 open-mounted : Open ≡ Unmounted → ⊥
 open-mounted e = let z : _≡_ {A = ℕ} 0 1 = cc in omega arith
 
--- power stays where all acts are performed
-pub stays-lit : Runs-part → (acts : List Act) (m n : Pair) → isDark m ≡ false → PerformedPair m acts n → isDark n ≡ false
-stays-lit parts acts m n lit p =
-    let q = parts acts m n p in
-    ap (λ (x : Bool). x || n .disk .dark) (run-power nvmRules (q .0)) ∙ ap (λ (x : Bool). m .nvm .dark || x) (run-power diskRules (q .1)) ∙ lit
-
-module _ {R : Type 0} (kind : Kind R) (lawful : Lawful kind) (parts : Runs-part) (N B : ℕ) where
+module _ {R : Type 0} (kind : Kind R) (lawful : Lawful kind) (N B : ℕ) where
   -- a machine that keeps the units of a book with power follows it
   pub follow : (n : Machine) (units : ℕ → List ℕ) (s : State) (l : Transaction) (ts : List Transaction) (cs : List (Fate × Transaction)) (ly : List Transaction)
       → isDark (n .devices) ≡ false → n .state ≡ s → n .list ≡ l → Keeps N B (n .devices) ts units → ((s ≡ Unmounted → ⊥) → ts ≡ ly) → Good kind B l
@@ -236,7 +211,7 @@ module _ {R : Type 0} (kind : Kind R) (lawful : Lawful kind) (parts : Runs-part)
             right,
             subst (λ (b : Book). Follows kind N B n b (tallyCall kind (tallied l cs ly) call a₀)) (sym book)
                 (subst (Follows kind N B n (live units s′ l)) (sym tally)
-                (follow n units s′ l [] cs [] (stays-lit parts acts d (n .devices) lit (w .acts)) (w .state) (w .list)
+                (follow n units s′ l [] cs [] (stays-lit acts d (n .devices) lit (w .acts)) (w .state) (w .list)
                 (subst (λ (x : ℕ). Keeps x B (n .devices) [] units) (places-is N B d ts units k)
                 (subst (λ (y : ℕ). Keeps (ownPlaces d) y (n .devices) [] units) (blocks-is N B d ts units k) (law .whole (n .devices) (w .acts))))
                 (λ h. refl) good readable commits)),
@@ -355,7 +330,7 @@ module _ {R : Type 0} (kind : Kind R) (lawful : Lawful kind) (parts : Runs-part)
                     (ap (λ (u : ℕ). Used (u + added l)) (used-here mounted)
                     ∙ sym (cond-false (noRoom (ownPlaces d) ly l) (Refused RingFull) (Used (placesTaken ly + added l)) (sym (full-is mounted l) ∙ h))),
                 follow n (lay l units) Idle [] (c .0) (cs ++ (whole, l) ∷ []) (andNonempty ly l)
-                    (stays-lit parts (commitActs (ownPlaces d) (ownWords d) l) d (n .devices) lit (w .acts)) (w .state) (w .list) (c .1) (λ e. c .2) (good-none kind B)
+                    (stays-lit (commitActs (ownPlaces d) (ownWords d) l) d (n .devices) lit (w .acts)) (w .state) (w .list) (c .1) (λ e. c .2) (good-none kind B)
                     (lay-readable kind lawful l units (good .readable) readable) (commit-takes B whole l cs units commits),
               )
 

@@ -12,9 +12,9 @@ use Rattle.refusal.specs.declared.reason.Refusal.{Refusal}
 use Rattle.refusal.specs.declared.reason.Refusal.the-variants.{Dark, NoSuchRecord, RingFull}
 use Rattle.device.specs.Sectors.{diskRules}
 use Rattle.crash.specs.Pair.{Pair, Act, isDark, CutPair, PairRestarted, settlingBoth}
-use Rattle.crash.specs.Phases.{Runs-part, Cuts-part}
 use Rattle.crash.proofs.Runs.{stopped-none}
 use Rattle.crash.proofs.Follow.{begun-size}
+use Rattle.crash.proofs.Pairs.{cuts-part}
 use Rattle.ringlaws.specs.Layout.{recordsOf, used}
 use Rattle.ringlaws.specs.TxnInfo.{Transaction}
 use Rattle.ringlaws.specs.Spells.{Fair}
@@ -36,17 +36,17 @@ use Rattle.book.specs.Book.{Book, next, isCommit}
 use Rattle.book.specs.Runs.{isFormat}
 use Rattle.book.specs.Commits.{Fate, cutOff, Tally, tallyCall, WholeAndInOrder}
 use Rattle.book.specs.Promise.{Lawful, Right, makesActs}
-use Rattle.book.proofs.Own.{Own, own, ownPlaces, ownBlocks, ownWords, ownSectors, places-is, blocks-is}
+use Rattle.order.proofs.Own.{Own, own, ownPlaces, ownBlocks, ownWords, ownSectors, places-is, blocks-is, ring-is}
 use Rattle.book.proofs.Goods.{Readable, EachReadable, Good, good-fair}
 use Rattle.book.proofs.Follows.{live, tallied, Gone, Follows, gone, Owes, commit-takes, commit-leaves}
-use Rattle.book.proofs.Went.{machine, ring-is, mount-plan-is}
+use Rattle.book.proofs.Went.{machine, mount-plan-is}
 
 -- what may come back: the units as they were, or after a cut commit with its settings laid over
 abbrev Returning : ℕ → ℕ → (ℕ → List ℕ) → Transaction → Bool → Pair → Type 0
 Returning N B units l cut d =
     (p : Pair) → PairRestarted d p → (ts : List Transaction) × (Keeps N B p ts units ⊎ ((cut ≡ true) × Keeps N B p ts (lay l units)))
 
-module _ {R : Type 0} (kind : Kind R) (lawful : Lawful kind) (run-parts : Runs-part) (parts : Cuts-part) (N B : ℕ) (d : Pair) (ts : List Transaction) (units : ℕ → List ℕ) (k : Keeps N B d ts units) (lit : isDark d ≡ false)
+module _ {R : Type 0} (kind : Kind R) (lawful : Lawful kind) (N B : ℕ) (d : Pair) (ts : List Transaction) (units : ℕ → List ℕ) (k : Keeps N B d ts units) (lit : isDark d ≡ false)
     (readable : (r : ℕ) → Readable kind (units r)) (l : Transaction) (cs : List (Fate × Transaction)) (ly : List Transaction) (good : Good kind B l) (commits : WholeAndInOrder B cs units) where
   here : Own d ts units
   here = own N B d ts units k
@@ -55,7 +55,7 @@ module _ {R : Type 0} (kind : Kind R) (lawful : Lawful kind) (run-parts : Runs-p
   Owed s call n a = Owes kind N B (machine d s l) (live units s l) (tallied l cs ly) call n a
 
   cut-blocks : (acts : List Act) (n : Pair) → CutPair d acts n → n .disk .size ≡ B
-  cut-blocks acts n c = begun-size diskRules (parts acts d n c .2) ∙ blocks-is N B d ts units k
+  cut-blocks acts n c = begun-size diskRules (cuts-part acts d n c .2) ∙ blocks-is N B d ts units k
 
   -- a commit that is cut is counted as cut, any other call is not counted
   counted : (c : Bool) → WholeAndInOrder B (cond c (cs ++ (cutOff, l) ∷ []) cs) units
@@ -73,7 +73,7 @@ module _ {R : Type 0} (kind : Kind R) (lawful : Lawful kind) (run-parts : Runs-p
       subst (Owed s call n) (sym says) (
         inr (inr (refl, m, refl)),
         gone (record {
-          out = parts acts d (n .devices) cut .0;
+          out = cuts-part acts d (n .devices) cut .0;
           book = refl;
           blocks = cut-blocks acts (n .devices) cut;
           back = back;
@@ -160,7 +160,7 @@ module _ {R : Type 0} (kind : Kind R) (lawful : Lawful kind) (run-parts : Runs-p
   mount-dies law a n w =
       let acts : List Act = settlingBoth (ownPlaces d + 1) ++ checkpointActs (ownBlocks d) (ownWords d) ts (ownSectors d) in
       let cut : CutPair d acts (n .devices) =
-      subst (λ (p : Plan R). CutPair d (p .acts) (n .devices)) (mount-plan-is kind lawful run-parts N B d ts units k lit readable Unmounted l cs ly (λ h. absurd (h refl)) good commits) (w .acts) in
+      subst (λ (p : Plan R). CutPair d (p .acts) (n .devices)) (mount-plan-is kind lawful N B d ts units k lit readable Unmounted l cs ly (λ h. absurd (h refl)) good commits) (w .acts) in
       dies Unmounted Mount a n acts refl (w .says) cut
       (keeps-back acts (n .devices) false (law (ownPlaces d) (ownBlocks d) (ownWords d) (ownSectors d) ts units d (here .ready) (here .holds)) cut)
 

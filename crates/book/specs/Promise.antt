@@ -24,10 +24,6 @@ use Rattle.book.specs.Book.{Book, blank, bookRead}
 use Rattle.book.specs.Runs.{Event, Run, isFormat}
 use Rattle.book.specs.Commits.{tally, placesTaken, WholeAndInOrder}
 
--- a kind from its two sides
-abbrev pub kindOf : {R : Type 0} → (R → List ℕ) → (List ℕ → Option R) → Kind R
-kindOf unit reads = record { unit = unit; reads = reads }
-
 -- the laws of a record kind; a unit has 32 words
 pub record Lawful {R : Type 0} (kind : Kind R) : Type 0 where
   pub whole : (x : R) → length (kind .unit x) ≡ 32

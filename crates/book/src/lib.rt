@@ -1,5 +1,6 @@
 //! The book, and what is promised of every list of calls and restarts.
-ghost use Rattle.book.specs.Promise.{Every-run-keeps-the-book, kindOf};
+ghost use Rattle.book.specs.Promise.{Every-run-keeps-the-book};
+ghost use Rattle.order.specs.Order.{kindOf};
 use kinds::kind::RecordKind;
 
 /// Names the promise, so that the check asks for its proof: from an accepted format on, every list of calls and restarts on any

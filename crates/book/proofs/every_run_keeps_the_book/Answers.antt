@@ -1,4 +1,4 @@
-use Rattle.book.specs.Promise.{kindOf}
+use Rattle.order.specs.Order.{kindOf}
 use Rattle.book.proofs.Main.{every-run-keeps-the-book}
 use Rattle.book.proofs.every_run_keeps_the_book.Needs as need
 
