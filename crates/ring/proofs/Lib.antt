@@ -1,0 +1,4 @@
+pub mod Scans
+pub mod Walking
+pub mod Listing
+pub mod Seeking
