@@ -1,4 +1,5 @@
 //! The ring of transactions: walked back from any source of words, and written.
+pub mod fill;
 pub mod find;
 pub mod info;
 pub mod list;
