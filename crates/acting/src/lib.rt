@@ -2,5 +2,6 @@
 //! up to the first that is refused.
 pub mod blocks;
 pub mod both;
+pub mod commit;
 pub mod format;
 pub mod memory;

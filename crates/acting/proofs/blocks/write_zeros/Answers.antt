@@ -12,6 +12,3 @@ loop-block-again g c = loop-more _ (c .loop-block .block) (c .loop-block .inv) (
 pub returns-in-Break-write : need.returns-in-Break-write
 returns-in-Break-write g c =
     broken _ (c .from-residual .ensures .1) (loop-stops _ (c .loop-block .block) _ (omega arith) (c .loop-block .inv) (stopped-one (c .in-Break-write .ensures tt)))
-
-pub returns : need.returns
-returns g c = ?

@@ -1,3 +1,4 @@
+use Rattle.device.specs.Words.{nvmRules}
 use Rattle.crash.proofs.Runs.{performed-one, stopped-one, stopped-first, stopped-second}
 use Rattle.acting.proofs.Running.{acted, broken, at-last}
 use Rattle.acting.proofs.memory.seal.Needs as need
@@ -13,4 +14,4 @@ returns-in-Break-flush g c =
 pub returns : need.returns
 returns g c =
     let r = c .fence .result in
-    at-last r (performed-one (c .in-Continue-store .ensures tt)) (at-last r (performed-one (c .in-Continue-flush .ensures tt)) (acted r (c .fence .ensures)))
+    at-last _ _ r (performed-one (c .in-Continue-store .ensures tt)) (at-last _ _ r (performed-one (c .in-Continue-flush .ensures tt)) (acted nvmRules _ _ _ r (c .fence .ensures)))

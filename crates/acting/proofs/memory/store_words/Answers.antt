@@ -12,6 +12,3 @@ loop-i-again g c = loop-more _ (c .loop-i .i) (c .loop-i .inv) (performed-one (c
 pub returns-in-Break-store : need.returns-in-Break-store
 returns-in-Break-store g c =
     broken _ (c .from-residual .ensures .1) (loop-stops _ (c .loop-i .i) _ (omega arith) (c .loop-i .inv) (stopped-one (c .in-Break-store .ensures tt)))
-
-pub returns : need.returns
-returns g c = ?
