@@ -1,2 +1,2 @@
-mod Running
-mod Laying
+pub mod Running
+pub mod Laying

@@ -9,9 +9,10 @@ use Rattle.device.specs.Devices.{Meaning, Rules, Performs, Refuses, Acted}
 use Rattle.device.specs.Words.{NvmMeaning, NvmAct, nvmRules}
 use Rattle.device.specs.Sectors.{DiskMeaning, DiskAct, diskRules}
 use Rattle.crash.specs.Acts.{PerformedOn, HaltedOn, RanOn}
-use Rattle.crash.specs.Pair.{Pair, both, Act, onNvm, onDisk, PairPerforms, PairRefuses, PerformedPair, HaltedPair, RanPair}
+use Rattle.crash.specs.Pair.{Pair, both, Act, onNvm, onDisk, PairPerforms, PairRefuses, PerformedPair, HaltedPair, RanPair, PairAccepts}
 use Rattle.crash.proofs.Runs.{performed-one, stopped-one, ran-broken, ran-after}
-use Rattle.crash.proofs.Pairs.{nvm-ran, disk-ran}
+use Rattle.crash.proofs.Pairs.{nvm-ran, disk-ran, only-darkness-stops-both}
+use Rattle.acting.specs.Ends.{RanOrCut}
 
 -- a single act of one device
 pub acted : {A Mark Value : Type 0} (rules : Rules A Mark Value) (m n : Meaning Mark Value) (a : A) (r : Result (Unit {0}) Refusal) → Acted rules m a r n → RanOn rules m (a ∷ []) r n
@@ -40,3 +41,8 @@ nvm-halted {acts} {n} {k} {e} d h = nvm-ran {V = Unit {0}} acts n k d (Err e) h
 
 pub disk-halted : {acts : List DiskAct} {d k : DiskMeaning} {e : Refusal} (n : NvmMeaning) → HaltedOn diskRules d acts e k → HaltedPair (both n d) (map onDisk acts) e (both n k)
 disk-halted {acts} {d} {k} {e} n h = disk-ran {V = Unit {0}} acts d k n (Err e) h
+
+-- where only darkness can stop the acts, they ended or were cut
+pub ran-or-cut : {V : Type 0} (acts : List Act) (m n : Pair) (r : Result V Refusal) → PairAccepts m acts → RanPair m acts r n → RanOrCut m acts r n
+ran-or-cut acts m n (Ok v) accepted ran = ran
+ran-or-cut acts m n (Err e) accepted ran = only-darkness-stops-both acts m n e accepted ran

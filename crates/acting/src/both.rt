@@ -7,7 +7,11 @@ use device::nvm::Nvm;
 use refusal::reason::Refusal;
 
 /// Settles `units` units of the memory, and the disk.
-pub fn settle_with<N: Nvm, D: Disk>(nvm: &mut N, disk: &mut D, units: usize) -> Result<(), Refusal>
+pub(crate) fn settle_with<N: Nvm, D: Disk>(
+    nvm: &mut N,
+    disk: &mut D,
+    units: usize,
+) -> Result<(), Refusal>
     requires { ⌜ 4 * units < 2 ^ 64 ⌝ }
     ensures { λ r. ⌜ RanPair (both (N·Nvm .meaning (now (nvm .entry))) (D·Disk .meaning (now (disk .entry)))) (settlingBoth units) r (both (N·Nvm .meaning (now (nvm .exit))) (D·Disk .meaning (now (disk .exit)))) ⌝ }
 {

@@ -4,4 +4,5 @@ pub mod blocks;
 pub mod both;
 pub mod commit;
 pub mod format;
+pub mod laws;
 pub mod memory;

@@ -8,7 +8,7 @@ use device::nvm::Nvm;
 use refusal::reason::Refusal;
 
 /// Stores words from the word `first` on, the first one first.
-pub fn store_words<N: Nvm>(nvm: &mut N, first: usize, words: &[u64]) -> Result<(), Refusal>
+pub(crate) fn store_words<N: Nvm>(nvm: &mut N, first: usize, words: &[u64]) -> Result<(), Refusal>
     requires { ⌜ first + length (now words) < 2 ^ 64 ⌝ }
     ensures { λ r. ⌜ RanOn nvmRules (meaning (now (nvm .entry))) (storing first (now (words .entry))) r (meaning (now (nvm .exit))) ⌝ }
 {
@@ -19,7 +19,7 @@ pub fn store_words<N: Nvm>(nvm: &mut N, first: usize, words: &[u64]) -> Result<(
 }
 
 /// Flushes `count` lines from the line `first` on.
-pub fn flush_lines<N: Nvm>(nvm: &mut N, first: usize, count: usize) -> Result<(), Refusal>
+pub(crate) fn flush_lines<N: Nvm>(nvm: &mut N, first: usize, count: usize) -> Result<(), Refusal>
     requires { ⌜ first + count < 2 ^ 64 ⌝ }
     ensures { λ r. ⌜ RanOn nvmRules (meaning (now (nvm .entry))) (flushing first count) r (meaning (now (nvm .exit))) ⌝ }
 {
@@ -39,7 +39,7 @@ pub fn seal<N: Nvm>(nvm: &mut N, word: usize, value: u64) -> Result<(), Refusal>
 }
 
 /// Settles the words of `units` units: flushes all their lines, and fences.
-pub fn settle_units<N: Nvm>(nvm: &mut N, units: usize) -> Result<(), Refusal>
+pub(crate) fn settle_units<N: Nvm>(nvm: &mut N, units: usize) -> Result<(), Refusal>
     requires { ⌜ 4 * units < 2 ^ 64 ⌝ }
     ensures { λ r. ⌜ RanOn nvmRules (meaning (now (nvm .entry))) (settling units) r (meaning (now (nvm .exit))) ⌝ }
 {
