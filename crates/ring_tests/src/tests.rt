@@ -193,3 +193,47 @@ fn a_record_may_end_in_magic(rt: LibcRuntime) -> Result<(), Fail> {
     check_eq(find::find(&source, 32, 30, 4, 4), Ok(None))?;
     check_eq(find::find(&source, 32, 32, 4, 4), Err(Refusal::Beyond))
 }
+
+// The ring of the worked dump in docs/FORMAT: a mast in record 5 and a cleared record 3, over the end of the ring.
+#[test]
+fn the_worked_dump(rt: LibcRuntime) -> Result<(), Fail> {
+    let mut image = empty(rt.alloc(), 32, 30)?;
+    turn(&mut image, 0, 0x3C91_E07D_58A2_B46F);
+    turn(&mut image, 1, 32);
+    turn(&mut image, 2, 2);
+    let mut mast = [0; 32];
+    mast[0] = 2;
+    mast[1] = 7;
+    mast[2] = 5;
+    mast[3] = 0x65_6764_6952;
+    let t = [
+        Setting {
+            number: 5,
+            unit: mast,
+        },
+        Setting {
+            number: 3,
+            unit: [0; 32],
+        },
+    ];
+    check_eq(fill::append(image.as_mut_slice(), 32, &t), Some(3))?;
+    for (number, value) in [
+        (0, 0x3C91_E07D_58A2_B46F),
+        (1, 32),
+        (2, 2),
+        (8, 30),
+        (16, 1),
+        (32, 5),
+        (33, 3),
+        (62, 2),
+        (63, 0x7E5A_31C4_9B0D_26F8),
+        (992, 2),
+        (993, 7),
+        (994, 5),
+        (995, 0x65_6764_6952),
+    ] {
+        check_eq(image.get(number).copied(), Some(value))?;
+        turn(&mut image, number, value);
+    }
+    check(image.iter().max() == Some(&0))
+}
