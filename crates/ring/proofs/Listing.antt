@@ -21,7 +21,8 @@ use Rattle.ringlaws.proofs.Back.{the-list-is-the-one}
 use Rattle.ring.specs.declared.step.Step.{Step}
 use Rattle.ring.specs.Sources.{Reading, Agrees, RefusesWithin}
 use Rattle.ring.specs.Walks.{Stepped, NoStep, WhyRefused, transactionsIn}
-use Rattle.ring.proofs.Walking.{Ring, ring, over, goes-on, came-short}
+use Rattle.ringunits.proofs.Rings.{ring}
+use Rattle.ring.proofs.Walking.{over, goes-on, came-short}
 
 -- what a push that came through leaves
 pub pushed : {X : Type 0} (ok err : Bool) (more xs : List X) → ok ≡ not err → err ≡ false → cond ok more xs ≡ more

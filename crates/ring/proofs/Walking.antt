@@ -5,10 +5,9 @@ use mathlib.Core.List.{List, [], _∷_}
 use mathlib.Core.Logic.{_⊎_, inl, inr}
 use Prim.Native.Nat.{ℕ, _+_, _-_, _<_, _≤_}
 use native.Mathlib.Omega.{arith}
-use Rattle.std.proofs.shelf.Tests.{and-parts, ltb-true, leb-true}
 use Rattle.refusal.specs.declared.reason.Refusal.{Refusal}
 use Rattle.refusal.specs.declared.reason.Refusal.the-variants.{UnsoundRing}
-use Rattle.ringlaws.specs.Layout.{Contents, before, isRing, mostPlaces, usedBetween}
+use Rattle.ringlaws.specs.Layout.{Contents, before, isRing}
 use Rattle.ringlaws.specs.TxnInfo.{Transaction, taken, countIn, numbersIn, goodInfo}
 use Rattle.ringlaws.specs.Sound.{Verdict, spelled, badAt, infoBefore, settingsAt, stepped, transactionBefore, steppingBack, stepBack, SoundBetween}
 use Rattle.ringlaws.proofs.Bad.{step-good, step-bad, step-end}
@@ -16,18 +15,6 @@ use Rattle.ringlaws.proofs.Places.{before-below}
 use Rattle.ring.specs.declared.step.Step.{Step}
 use Rattle.ring.specs.Sources.{Reading, Agrees, RefusesWithin}
 use Rattle.ring.specs.Walks.{Stepped, NoStep, WhyRefused, handedOn, unsound}
-
--- what is known of a ring's numbers
-pub record Ring (N head tail : ℕ) : Type 0 where
-  pub most : N ≤ mostPlaces
-  pub headIn : head < N
-  pub tailIn : tail < N
-
-pub ring : (N head tail : ℕ) → isRing N head tail ≡ true → Ring N head tail
-ring N head tail e =
-    let (m, rest) = and-parts _ _ e in
-    let (h, t) = and-parts _ _ rest in
-    record { most = leb-true N mostPlaces m; headIn = ltb-true head N h; tailIn = ltb-true tail N t }
 
 module _ (reads : Reading) (N B place left : ℕ) (s : Step) (st : Stepped reads N B place left s) where
   -- the transaction that was stepped over

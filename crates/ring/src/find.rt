@@ -4,14 +4,14 @@ ghost use mathlib.Core.Bool.{true};
 ghost use Rattle.ringlaws.specs.Layout.{isRing};
 ghost use Rattle.ringlaws.specs.Newest.{indexOf};
 ghost use Rattle.ring.specs.Walks.{Finds};
-use crate::info::good_count;
-use crate::info::places_taken;
-use crate::places::is_ring;
-use crate::places::place_before;
-use crate::places::used_between;
 use crate::source::Source;
 use crate::unit::load_unit;
 use refusal::reason::Refusal;
+use ringunits::info::good_count;
+use ringunits::info::places_taken;
+use ringunits::places::is_ring;
+use ringunits::places::place_before;
+use ringunits::places::used_between;
 
 /// Where a number stands among the numbers.
 pub fn index_of(number: u64, numbers: &[u64]) -> Option<usize>

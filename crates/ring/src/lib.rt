@@ -1,9 +1,6 @@
-//! The ring of transactions: walked back from any source of words, and written.
-pub mod fill;
+//! The ring of transactions, walked back from any source of words.
 pub mod find;
-pub mod info;
 pub mod list;
-pub mod places;
 pub mod source;
 pub mod step;
 pub mod unit;

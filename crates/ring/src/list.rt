@@ -11,14 +11,14 @@ ghost use Rattle.ringlaws.specs.Layout.{Contents, isRing};
 ghost use Rattle.ringlaws.specs.Sound.{settingsAt};
 ghost use Rattle.ring.specs.Sources.{Agrees, RefusesWithin};
 ghost use Rattle.ring.specs.Walks.{Lists};
-use crate::places::is_ring;
-use crate::places::place_after;
-use crate::places::used_between;
 use crate::source::Source;
 use crate::unit::load_unit;
 use crate::walk::step_back;
 use refusal::reason::Refusal;
 use ringlaws::setting::Setting;
+use ringunits::places::is_ring;
+use ringunits::places::place_after;
+use ringunits::places::used_between;
 use std::alloc::Global;
 
 /// The settings of these numbers, with the units in the places from `first` on.

@@ -5,15 +5,15 @@ ghost use Prim.Native.Nat.{_<_, _≤_};
 ghost use Rattle.std.specs.Results.{Cases};
 ghost use Rattle.ringlaws.specs.Layout.{isRing};
 ghost use Rattle.ring.specs.Walks.{Stepped, NoStep, Checks};
-use crate::info::is_info;
-use crate::info::places_taken;
-use crate::places::is_ring;
-use crate::places::place_before;
-use crate::places::used_between;
 use crate::source::Source;
 use crate::step::Step;
 use crate::unit::load_unit;
 use refusal::reason::Refusal;
+use ringunits::info::is_info;
+use ringunits::info::places_taken;
+use ringunits::places::is_ring;
+use ringunits::places::place_before;
+use ringunits::places::used_between;
 
 /// Loads the unit before a place, judges it as a TxnInfo, and steps over its transaction.
 pub fn step_back<S: Source>(

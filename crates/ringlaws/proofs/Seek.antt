@@ -16,7 +16,7 @@ use Rattle.ringlaws.specs.TxnInfo.{Transaction, numbersOf, recordUnits, taken,
 use Rattle.ringlaws.specs.Spells.{written, Fair, AllFair, SpellsBetween}
 use Rattle.ringlaws.specs.Sound.{infoBefore, stepped}
 use Rattle.ringlaws.specs.Newest.{settingOf, orElse, latest, lay, laid, indexOf, seekingBack, newest}
-use Rattle.ringlaws.specs.Laws.{Newest-holds-the-latest, Newest-is-a-place, Laid-is-the-latest}
+use Rattle.ringlaws.specs.Laws.{Newest-holds-the-latest, Newest-is-a-place, Laid-is-the-latest, Laid-one-more, Laid-again-is-the-same}
 use Rattle.ringlaws.proofs.Places.{before-after, before-below, after-below, tail-is, used-below}
 use Rattle.ringlaws.proofs.Infos.{good-count}
 use Rattle.ringlaws.proofs.Units.{fair-front, last-of}
@@ -116,6 +116,19 @@ laid-is-the-latest (t ∷ ts) homes r = laid-is-the-latest ts (lay t homes) r �
     go : (o : Option (List ℕ)) → valueOr o (valueOr (settingOf t r) (homes r)) ≡ valueOr (orElse o (settingOf t r)) (homes r)
     go None = refl
     go (Some x) = refl
+
+pub laid-one-more : Laid-one-more
+unfolding laid
+laid-one-more [] t homes = refl
+laid-one-more (s ∷ ts) t homes = laid-one-more ts t (lay s homes)
+
+pub laid-again-is-the-same : Laid-again-is-the-same
+laid-again-is-the-same ts homes mixed r m = laid-is-the-latest ts mixed r ∙ go (latest ts r) refl m ∙ sym (laid-is-the-latest ts homes r)
+  where
+    go : (o : Option (List ℕ)) → latest ts r ≡ o → (mixed r ≡ homes r) ⊎ (mixed r ≡ laid ts homes r) → valueOr o (mixed r) ≡ valueOr o (homes r)
+    go (Some x) q m = refl
+    go None q (inl e) = e
+    go None q (inr e) = e ∙ laid-is-the-latest ts homes r ∙ ap (λ o. valueOr o (homes r)) q
 
 -- every place that seeking gives is a place
 module _ (N : ℕ) (c : Contents) (r : ℕ) where

@@ -2,6 +2,7 @@
 use mathlib.Core.Path.{_≡_}
 use mathlib.Core.Bool.{true, false}
 use mathlib.Core.List.{List, [], _∷_, _++_}
+use mathlib.Core.Logic.{_⊎_}
 use Prim.Native.Nat.{ℕ, zero, suc, _+_, _*_, _-_, _<_, _≤_}
 use lib.ListN.{length, getD}
 use Rattle.std.specs.Options.{mapped, valueOr}
@@ -11,7 +12,7 @@ use Rattle.ringlaws.specs.Layout.{Contents, headOf, tailOf, placeAt, after, be
 use Rattle.ringlaws.specs.TxnInfo.{Transaction, taken, goodInfo}
 use Rattle.ringlaws.specs.Spells.{written, Fair, AllFair, SpellsBetween, Spells}
 use Rattle.ringlaws.specs.Sound.{Verdict, spelled, badAt, infoBefore, stepBack, Sound}
-use Rattle.ringlaws.specs.Newest.{latest, laid, newest}
+use Rattle.ringlaws.specs.Newest.{latest, lay, laid, newest}
 use Rattle.ringlaws.specs.Appends.{hasRoom, Appended, SamePlaces}
 
 -- Stepping back gives a list exactly if that list spells the ring.
@@ -80,6 +81,15 @@ Newest-is-a-place = (N : ℕ) (c : Contents) (head tail r p : ℕ) → head < N 
 -- Transactions laid over homes give a record its latest unit, and the home's where they do not name it.
 abbrev pub Laid-is-the-latest : Type 0
 Laid-is-the-latest = (ts : List Transaction) (homes : ℕ → List ℕ) (r : ℕ) → laid ts homes r ≡ valueOr (latest ts r) (homes r)
+
+-- One transaction more is laid over what the others made.
+abbrev pub Laid-one-more : Type 0
+Laid-one-more = (ts : List Transaction) (t : Transaction) (homes : ℕ → List ℕ) → laid (ts ++ t ∷ []) homes ≡ lay t (laid ts homes)
+
+-- Homes that already hold what the transactions give them, some or all, make the same table.
+abbrev pub Laid-again-is-the-same : Type 0
+Laid-again-is-the-same =
+    (ts : List Transaction) (homes mixed : ℕ → List ℕ) (r : ℕ) → (mixed r ≡ homes r) ⊎ (mixed r ≡ laid ts homes r) → laid ts mixed r ≡ laid ts homes r
 
 -- A ring with one more transaction spells the old list and that transaction, and has that many more places in use.
 abbrev pub Appended-spells-one-more : Type 0

@@ -1,5 +1,5 @@
 //! The laws of the ring: each function stands for the theorem that its contract states.
-ghost use Rattle.ringlaws.specs.Laws.{Sound-exactly-if-spelled, Only-one-list, Every-word-comes-back, The-list-is-the-one, A-bad-place-is-the-first, There-and-back, Newest-holds-the-latest, Newest-is-a-place, Laid-is-the-latest, Appended-spells-one-more, Only-used-places-matter, Empty-spells-nothing};
+ghost use Rattle.ringlaws.specs.Laws.{Sound-exactly-if-spelled, Only-one-list, Every-word-comes-back, The-list-is-the-one, A-bad-place-is-the-first, There-and-back, Newest-holds-the-latest, Newest-is-a-place, Laid-is-the-latest, Laid-one-more, Laid-again-is-the-same, Appended-spells-one-more, Only-used-places-matter, Empty-spells-nothing};
 ghost use Rattle.ringlaws.specs.Examples.{RingExamples};
 
 /// Stepping back gives a list exactly if that list spells the ring.
@@ -89,6 +89,20 @@ pub fn empty_spells_nothing() -> u8
 /// The worked examples of the layout hold.
 pub fn ring_examples() -> u8
     ensures { λ _. ⌜ RingExamples ⌝ }
+{
+    0
+}
+
+/// One transaction more is laid over what the others made.
+pub fn laid_one_more() -> u8
+    ensures { λ _. ⌜ Laid-one-more ⌝ }
+{
+    0
+}
+
+/// Homes that already hold what the transactions give them make the same table.
+pub fn laid_again_is_the_same() -> u8
+    ensures { λ _. ⌜ Laid-again-is-the-same ⌝ }
 {
     0
 }

@@ -7,7 +7,7 @@ use Rattle.ringlaws.specs.Layout.{unitAt, before}
 use Rattle.ringlaws.specs.TxnInfo.{countIn, taken}
 use Rattle.ringlaws.specs.Newest.{seekingBack}
 use Rattle.ringlaws.proofs.Places.{used-below, before-below}
-use Rattle.ring.proofs.Walking.{ring}
+use Rattle.ringunits.proofs.Rings.{ring}
 use Rattle.ring.proofs.Listing.{wider}
 use Rattle.ring.proofs.Seeking.{index-below, sought-none, sought-stop, sought-here, sought-on}
 use Rattle.ring.proofs.find.find_back.Needs as need

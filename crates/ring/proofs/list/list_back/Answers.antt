@@ -8,7 +8,8 @@ use Rattle.std.proofs.shelf.Results.{err-from-errBy}
 use Rattle.ringlaws.specs.Sound.{steppingBack}
 use Rattle.ringlaws.proofs.Places.{used-below}
 use Rattle.ring.specs.Walks.{handedOn}
-use Rattle.ring.proofs.Walking.{ring, stays}
+use Rattle.ringunits.proofs.Rings.{ring}
+use Rattle.ring.proofs.Walking.{stays}
 use Rattle.ring.proofs.Listing.{pushed, kept-on, kept-all, kept-short}
 use Rattle.ring.proofs.list.list_back.Needs as need
 

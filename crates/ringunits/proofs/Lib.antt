@@ -1,0 +1,4 @@
+pub mod Rings
+pub mod Scans
+pub mod Making
+pub mod Filling

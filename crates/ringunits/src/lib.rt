@@ -1,0 +1,4 @@
+//! The places of a ring, its units judged, and its units written.
+pub mod fill;
+pub mod info;
+pub mod places;
