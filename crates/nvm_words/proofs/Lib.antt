@@ -3,3 +3,4 @@ pub mod Lines
 pub mod Contents
 pub mod Listed
 pub mod Owned
+pub mod Performing

@@ -1,2 +1,4 @@
 pub mod Marks
 pub mod Meant
+pub mod Acts
+pub mod Looks
