@@ -4,3 +4,4 @@ pub mod Contents
 pub mod Listed
 pub mod Owned
 pub mod Performing
+pub mod Counted
