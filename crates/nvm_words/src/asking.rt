@@ -2,6 +2,8 @@
 ghost use mathlib.Core.Path.{_≡_};
 ghost use Rattle.device.specs.Devices.{refusalOf};
 ghost use Rattle.device.specs.Words.{Store, Flush, nvmRules, loads};
+ghost use Prim.Native.Nat.{_*_, _<_};
+ghost use Rattle.simulated.specs.Lists.{member};
 ghost use Rattle.nvm_words.specs.Meant.{meant, unsettledLines};
 ghost use Rattle.nvm_words.specs.Acts.{verdict};
 ghost use Rattle.nvm_words.specs.Looks.{presentAt, settledAt, markAt};
@@ -36,6 +38,14 @@ impl Words {
         ensures { λ r. ⌜ now r ≡ unsettledLines (now (self .entry)) ⌝ }
     {
         self.pending.as_slice()
+    }
+
+    /// Whether a line holds an unsettled word.
+    pub fn holds_unsettled(&self, line: usize) -> bool
+        requires { ⌜ line < 4 * now self .units ⌝ }
+        ensures { λ r. ⌜ r ≡ member line (unsettledLines (now (self .entry))) ⌝ }
+    {
+        self.pending.contains(line)
     }
 
     /// The present value of a word, for whoever is on the other side of the interface.
