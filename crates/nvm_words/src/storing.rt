@@ -32,7 +32,8 @@ impl Words {
         requires { ⌜ 0 < length (unsettledLines (now self)) ⌝ }
         ensures { λ _. ⌜ Became (now (self .entry) .supply) (lineSettled (getD (unsettledLines (now (self .entry))) 0 0)) (withoutFirst (unsettledLines (now (self .entry)))) (now (self .entry)) (now (self .exit)) ⌝ }
     {
-        let line = self.pending.as_slice()[0];
+        let lines = self.pending.as_slice();
+        let line = lines[0];
         change_line(self.marks.as_mut_slice(), line, Change::Settle);
         self.pending.remove_first();
     }
