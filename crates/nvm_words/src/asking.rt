@@ -2,9 +2,9 @@
 ghost use mathlib.Core.Path.{_≡_};
 ghost use Rattle.device.specs.Devices.{refusalOf};
 ghost use Rattle.device.specs.Words.{Store, Flush, nvmRules, loads};
-ghost use Prim.Native.Nat.{_*_, _<_};
+ghost use Prim.Native.Nat.{ℕ, _*_, _<_};
 ghost use Rattle.simulated.specs.Lists.{member};
-ghost use Rattle.nvm_words.specs.Meant.{meant, unsettledLines};
+ghost use Rattle.nvm_words.specs.Meant.{meant, unsettledLines, isUnsettledLine};
 ghost use Rattle.nvm_words.specs.Acts.{verdict};
 ghost use Rattle.nvm_words.specs.Looks.{presentAt, settledAt, markAt};
 use crate::mark::Mark;
@@ -33,9 +33,10 @@ impl Words {
         self.supply.acts_left()
     }
 
-    /// The lines that hold an unsettled word, the one that became so earliest first.
+    /// The lines that hold an unsettled word, and no other, the one that became so earliest first.
     pub fn unsettled_lines(&self) -> &[usize]
-        ensures { λ r. ⌜ now r ≡ unsettledLines (now (self .entry)) ⌝ }
+        ensures lines { λ r. ⌜ now r ≡ unsettledLines (now (self .entry)) ⌝ }
+        ensures exact { λ _. ⌜ ((l : ℕ) → member l (unsettledLines (now (self .entry))) ≡ isUnsettledLine (meant (now (self .entry)) .piece) l) ⌝ }
     {
         self.pending.as_slice()
     }
@@ -71,7 +72,7 @@ impl Words {
         Some(self.present[word])
     }
 
-    /// The value that a word would be settled at if power were gone and it came back old.
+    /// The settled value of a word: what it would come back as, if it came back old.
     pub fn settled_at(&self, word: usize) -> Option<u64>
         ensures { λ r. ⌜ r ≡ settledAt (meant (now (self .entry))) word ⌝ }
     {

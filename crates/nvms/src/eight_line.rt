@@ -9,6 +9,10 @@ ghost use Rattle.refusal.specs.declared.reason.Refusal.the-variants.{NoMemory};
 ghost use Rattle.device.specs.Devices.{Acted, Restarted};
 ghost use Rattle.device.specs.Words.{Store, Flush, Fence, nvmRules};
 ghost use Rattle.simulated.specs.Natures.{answers, becomes, returned};
+ghost use Prim.Native.Nat.{ℕ, _≤_};
+ghost use lib.ListN.{length};
+ghost use Rattle.simulated.specs.Lists.{member};
+ghost use Rattle.nvm_words.specs.Meant.{isUnsettledLine};
 ghost use Rattle.nvm_words.specs.Looks.{presentAt, settledAt, markAt};
 ghost use Rattle.nvm_words.specs.Made.{zeroedOf};
 ghost use Rattle.nvms.specs.Natures.{eightLineMakes, linesAfter};
@@ -63,9 +67,11 @@ impl EightLineNvm {
         self.words.settled_at(word)
     }
 
-    /// The lines that hold an unsettled word, the one that became so earliest first.
+    /// The lines that hold an unsettled word, and no other, the one that became so earliest first: at most eight.
     pub fn lines_by_age(&self) -> &[usize]
-        ensures { λ r. ⌜ now r ≡ linesByAge (now (self .entry)) ⌝ }
+        ensures lines { λ r. ⌜ now r ≡ linesByAge (now (self .entry)) ⌝ }
+        ensures exact { λ _. ⌜ ((l : ℕ) → member l (linesByAge (now (self .entry))) ≡ isUnsettledLine (eightLineMeaning (now (self .entry)) .piece) l) ⌝ }
+        ensures few { λ r. ⌜ length (now r) ≤ 8 ⌝ }
     {
         self.words.unsettled_lines()
     }

@@ -17,7 +17,7 @@ loop-i-holds c = record { size = refl; power = refl; words = λ w. first-none (u
 pub settle-oldest-requires : need.settle-oldest-requires
 settle-oldest-requires c κs =
     let ls = unsettledLines (c .args .words .now) in
-    omega (arith, ap length (c .loop-i .inv .lines), length-drop (c .loop-i .-i) ls, ap length (c .unsettled-lines .ensures), c .saturating-sub-surplus .ensures, c .loop-i-test .taken)
+    omega (arith, ap length (c .loop-i .inv .lines), length-drop (c .loop-i .-i) ls, ap length (c .unsettled-lines .ensures .lines), c .saturating-sub-surplus .ensures, c .loop-i-test .taken)
 
 pub loop-i-again : need.loop-i-again
 loop-i-again c =
@@ -26,7 +26,7 @@ loop-i-again c =
     let i = c .loop-i .-i in
     let cur = c .loop-i .words in
     let inv = c .loop-i .inv in
-    let lt : i < length ls = omega (arith, ap length (c .unsettled-lines .ensures), c .saturating-sub-surplus .ensures, c .loop-i-test .taken) in
+    let lt : i < length ls = omega (arith, ap length (c .unsettled-lines .ensures .lines), c .saturating-sub-surplus .ensures, c .loop-i-test .taken) in
     became-like n (c .settle-oldest .last .self) (cur .supply) (n .supply) (λ w d. lineSettled (getD (unsettledLines cur) 0 0) w (firstSettled i ls w d)) _ (withoutFirst (unsettledLines cur)) _ (inv .power)
     (λ w d. ap (λ (xs : List ℕ). lineSettled (getD xs 0 0) w (firstSettled i ls w d)) (inv .lines) ∙ first-more ls i lt w d)
     (ap withoutFirst (inv .lines) ∙ drop-first ls i)
@@ -37,5 +37,5 @@ returns c =
     let n = c .args .words .now in
     let ls = unsettledLines n in
     let i = c .loop-i .-i in
-    let all : i ≡ length ls - 8 = omega (arith, ap length (c .unsettled-lines .ensures), c .saturating-sub-surplus .ensures, c .loop-i-test .left, c .loop-i .kept .-i-end) in
+    let all : i ≡ length ls - 8 = omega (arith, ap length (c .unsettled-lines .ensures .lines), c .saturating-sub-surplus .ensures, c .loop-i-test .left, c .loop-i .kept .-i-end) in
     became-like n (c .loop-i .words) (n .supply) (n .supply) (firstSettled i ls) (surplusSettled ls) (drop i ls) (drop (length ls - 8) ls) refl (λ w d. ap (λ k. firstSettled k ls w d) all) (ap (λ k. drop k ls) all) (c .loop-i .inv)
