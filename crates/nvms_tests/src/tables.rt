@@ -1,8 +1,6 @@
 //! Acts on a memory, and what stands after them.
 use device::nvm::Nvm;
 use nvm_words::mark::Mark;
-use nvm_words::mark::MarkDebug;
-use nvm_words::mark::MarkPartialEq;
 use nvms::device::EightLineNvm;
 use nvms::device::PatientNvm;
 use nvms::eight_line::EightLineNvmNvm;
@@ -10,23 +8,31 @@ use nvms::patient::PatientNvmNvm;
 use refusal::reason::Refusal;
 use std::test::*;
 
-/// A word: its present value, its settled value and its mark.
+/// How a word stands.
 #[derive(Clone, Copy, PartialEq, Eq, Debug)]
-pub struct Look(pub Option<u64>, pub Option<u64>, pub Option<Mark>);
-
-/// A settled word.
-pub fn still(value: u64) -> Look {
-    Look(Some(value), Some(value), Some(Mark::Settled))
+pub enum Look {
+    /// Settled at a value.
+    Still(u64),
+    /// Waiting for a flush: its present and its settled value.
+    Waits(u64, u64),
+    /// Waiting for a fence: its present and its settled value.
+    Flushed(u64, u64),
+    /// Settled at two values, which no memory is.
+    Torn,
+    /// Beyond the size.
+    Beyond,
 }
 
-/// A word that waits for a flush.
-pub fn waits(present: u64, settled: u64) -> Look {
-    Look(Some(present), Some(settled), Some(Mark::Waiting))
-}
-
-/// A word that waits for a fence.
-pub fn flushed(present: u64, settled: u64) -> Look {
-    Look(Some(present), Some(settled), Some(Mark::Flushed))
+/// How a word with these values and this mark stands.
+fn seen(present: Option<u64>, settled: Option<u64>, mark: Option<Mark>) -> Look {
+    match (mark, present, settled) {
+        (Some(Mark::Waiting), Some(p), Some(s)) => Look::Waits(p, s),
+        (Some(Mark::Flushed), Some(p), Some(s)) => Look::Flushed(p, s),
+        (Some(Mark::Settled), Some(p), Some(s)) => {
+            if p == s { Look::Still(p) } else { Look::Torn }
+        }
+        _ => Look::Beyond,
+    }
 }
 
 /// A memory that can be looked into.
@@ -36,13 +42,13 @@ pub trait Simulation: Nvm {
 
 pub impl Simulation for PatientNvm as PatientSimulation {
     fn look(&self, word: usize) -> Look {
-        Look(self.present(word), self.settled(word), self.mark(word))
+        seen(self.present(word), self.settled(word), self.mark(word))
     }
 }
 
 pub impl Simulation for EightLineNvm as EightLineSimulation {
     fn look(&self, word: usize) -> Look {
-        Look(self.present(word), self.settled(word), self.mark(word))
+        seen(self.present(word), self.settled(word), self.mark(word))
     }
 }
 

@@ -1,4 +1,6 @@
 //! The tables.
+use crate::tables::Look::*;
+use crate::tables::Step::*;
 use crate::tables::*;
 use device::comeback::Comeback;
 use device::nvm::Nvm;
@@ -17,37 +19,19 @@ use std::test::*;
 fn patient_settles_at_fences(rt: LibcRuntime) -> Result<(), Fail> {
     let mut nvm = PatientNvm::zeroed(rt.alloc(), 1, 7)?;
     let rows = [
-        Row(Step::Store(0, 7), 0, waits(7, 0), still(0), still(0)),
-        Row(Step::Store(0, 8), 2, waits(7, 0), still(0), still(0)),
-        Row(Step::Store(32, 8), 1, waits(7, 0), still(0), still(0)),
-        Row(Step::Store(8, 9), 0, waits(7, 0), still(0), waits(9, 0)),
-        Row(Step::Flush(0), 0, flushed(7, 0), still(0), waits(9, 0)),
-        Row(
-            Step::Store(1, 5),
-            0,
-            flushed(7, 0),
-            waits(5, 0),
-            waits(9, 0),
-        ),
-        Row(Step::Flush(4), 1, flushed(7, 0), waits(5, 0), waits(9, 0)),
-        Row(Step::Fence, 0, still(7), waits(5, 0), waits(9, 0)),
-        Row(Step::Store(0, 6), 0, waits(6, 7), waits(5, 0), waits(9, 0)),
-        Row(Step::Flush(1), 0, waits(6, 7), waits(5, 0), flushed(9, 0)),
-        Row(
-            Step::Store(1, 6),
-            2,
-            waits(6, 7),
-            waits(5, 0),
-            flushed(9, 0),
-        ),
-        Row(Step::Fence, 5, waits(6, 7), waits(5, 0), flushed(9, 0)),
-        Row(
-            Step::Store(32, 6),
-            5,
-            waits(6, 7),
-            waits(5, 0),
-            flushed(9, 0),
-        ),
+        Row(Store(0, 7), 0, Waits(7, 0), Still(0), Still(0)),
+        Row(Store(0, 8), 2, Waits(7, 0), Still(0), Still(0)),
+        Row(Store(32, 8), 1, Waits(7, 0), Still(0), Still(0)),
+        Row(Store(8, 9), 0, Waits(7, 0), Still(0), Waits(9, 0)),
+        Row(Flush(0), 0, Flushed(7, 0), Still(0), Waits(9, 0)),
+        Row(Store(1, 5), 0, Flushed(7, 0), Waits(5, 0), Waits(9, 0)),
+        Row(Flush(4), 1, Flushed(7, 0), Waits(5, 0), Waits(9, 0)),
+        Row(Fence, 0, Still(7), Waits(5, 0), Waits(9, 0)),
+        Row(Store(0, 6), 0, Waits(6, 7), Waits(5, 0), Waits(9, 0)),
+        Row(Flush(1), 0, Waits(6, 7), Waits(5, 0), Flushed(9, 0)),
+        Row(Store(1, 6), 2, Waits(6, 7), Waits(5, 0), Flushed(9, 0)),
+        Row(Fence, 5, Waits(6, 7), Waits(5, 0), Flushed(9, 0)),
+        Row(Store(32, 6), 5, Waits(6, 7), Waits(5, 0), Flushed(9, 0)),
     ];
     follow(&mut nvm, &rows)
 }
@@ -55,17 +39,17 @@ fn patient_settles_at_fences(rt: LibcRuntime) -> Result<(), Fail> {
 #[test]
 fn a_ninth_line_settles_the_earliest(rt: LibcRuntime) -> Result<(), Fail> {
     let mut nvm = EightLineNvm::zeroed(rt.alloc(), 3, 100)?;
-    check_eq(perform(&mut nvm, Step::Store(8, 1)), 0)?;
-    check_eq(perform(&mut nvm, Step::Store(0, 1)), 0)?;
+    check_eq(perform(&mut nvm, Store(8, 1)), 0)?;
+    check_eq(perform(&mut nvm, Store(0, 1)), 0)?;
     for line in 2..8 {
-        check_eq(perform(&mut nvm, Step::Store(8 * line, 1)), 0)?;
+        check_eq(perform(&mut nvm, Store(8 * line, 1)), 0)?;
     }
     let rows = [
-        Row(Step::Store(1, 2), 0, waits(1, 0), waits(2, 0), waits(1, 0)),
-        Row(Step::Store(64, 3), 0, waits(1, 0), waits(2, 0), still(1)),
-        Row(Step::Store(8, 4), 0, still(1), still(2), waits(4, 1)),
-        Row(Step::Flush(1), 0, still(1), still(2), flushed(4, 1)),
-        Row(Step::Fence, 0, still(1), still(2), still(4)),
+        Row(Store(1, 2), 0, Waits(1, 0), Waits(2, 0), Waits(1, 0)),
+        Row(Store(64, 3), 0, Waits(1, 0), Waits(2, 0), Still(1)),
+        Row(Store(8, 4), 0, Still(1), Still(2), Waits(4, 1)),
+        Row(Flush(1), 0, Still(1), Still(2), Flushed(4, 1)),
+        Row(Fence, 0, Still(1), Still(2), Still(4)),
     ];
     follow(&mut nvm, &rows)?;
     check_eq(nvm.lines_by_age(), [2usize, 3, 4, 5, 6, 7, 8].as_slice())
@@ -82,8 +66,8 @@ fn a_surplus_of_lines_settles_at_once(rt: LibcRuntime) -> Result<(), Fail> {
         1,
     )?;
     check_eq(nvm.units(), 2)?;
-    check_eq(nvm.look(63), flushed(4, 3))?;
-    check_eq(nvm.look(64), Look(None, None, None))?;
+    check_eq(nvm.look(63), Flushed(4, 3))?;
+    check_eq(nvm.look(64), Beyond)?;
     let nvm = EightLineNvm::new(
         heap,
         vec![in heap; 3; 96]?,
@@ -91,13 +75,13 @@ fn a_surplus_of_lines_settles_at_once(rt: LibcRuntime) -> Result<(), Fail> {
         vec![in heap; Mark::Waiting; 96]?,
         1,
     )?;
-    check_eq(nvm.look(31), still(4))?;
-    check_eq(nvm.look(32), waits(4, 3))
+    check_eq(nvm.look(31), Still(4))?;
+    check_eq(nvm.look(32), Waits(4, 3))
 }
 
 #[test]
 fn dark_after_every_act_number(rt: LibcRuntime) -> Result<(), Fail> {
-    let steps = [Step::Store(0, 1), Step::Flush(0), Step::Fence];
+    let steps = [Store(0, 1), Flush(0), Fence];
     for acts in 0..4 {
         let mut nvm = EightLineNvm::zeroed(rt.alloc(), 1, acts)?;
         for i in 0..3 {
@@ -132,11 +116,11 @@ fn sizes_come_from_the_shortest_list(rt: LibcRuntime) -> Result<(), Fail> {
 /// A patient memory that went dark with word 0 waiting, word 1 flushed and word 8 waiting.
 fn cut(heap: Global) -> Result<PatientNvm, Fail> {
     let mut nvm = PatientNvm::zeroed(heap, 1, 4)?;
-    check_eq(perform(&mut nvm, Step::Store(1, 7)), 0)?;
-    check_eq(perform(&mut nvm, Step::Flush(0)), 0)?;
-    check_eq(perform(&mut nvm, Step::Store(0, 6)), 0)?;
-    check_eq(perform(&mut nvm, Step::Store(8, 9)), 0)?;
-    check_eq(perform(&mut nvm, Step::Fence), 5)?;
+    check_eq(perform(&mut nvm, Store(1, 7)), 0)?;
+    check_eq(perform(&mut nvm, Flush(0)), 0)?;
+    check_eq(perform(&mut nvm, Store(0, 6)), 0)?;
+    check_eq(perform(&mut nvm, Store(8, 9)), 0)?;
+    check_eq(perform(&mut nvm, Fence), 5)?;
     check_eq(nvm.load(0).is_ok(), false)?;
     Ok(nvm)
 }
@@ -146,23 +130,17 @@ fn words_come_back_old_new_or_mixed(rt: LibcRuntime) -> Result<(), Fail> {
     let heap = rt.alloc();
     let mut nvm = cut(heap)?;
     nvm.restart(&Comeback::Old, 1);
-    follow(
-        &mut nvm,
-        &[Row(Step::Fence, 0, still(0), still(0), still(0))],
-    )?;
+    follow(&mut nvm, &[Row(Fence, 0, Still(0), Still(0), Still(0))])?;
     let mut nvm = cut(heap)?;
     nvm.restart(&Comeback::New, 1);
-    follow(
-        &mut nvm,
-        &[Row(Step::Fence, 0, still(6), still(7), still(9))],
-    )?;
+    follow(&mut nvm, &[Row(Fence, 0, Still(6), Still(7), Still(9))])?;
     let mut nvm = cut(heap)?;
     nvm.restart(&Comeback::Chosen(vec![in heap; false, true]?), 1);
     follow(
         &mut nvm,
         &[
-            Row(Step::Fence, 0, still(0), still(7), still(0)),
-            Row(Step::Fence, 5, still(0), still(7), still(0)),
+            Row(Fence, 0, Still(0), Still(7), Still(0)),
+            Row(Fence, 5, Still(0), Still(7), Still(0)),
         ],
     )
 }
@@ -170,10 +148,10 @@ fn words_come_back_old_new_or_mixed(rt: LibcRuntime) -> Result<(), Fail> {
 #[test]
 fn a_further_memory_keeps_the_interface(rt: LibcRuntime) -> Result<(), Fail> {
     let mut nvm = BufferedNvm::new(vec![in rt.alloc(); 0; 32]?);
-    check_eq(perform(&mut nvm, Step::Store(3, 1)), 0)?;
-    check_eq(perform(&mut nvm, Step::Store(3, 2)), 2)?;
-    check_eq(perform(&mut nvm, Step::Store(4, 2)), 0)?;
-    check_eq(perform(&mut nvm, Step::Store(3, 5)), 0)?;
+    check_eq(perform(&mut nvm, Store(3, 1)), 0)?;
+    check_eq(perform(&mut nvm, Store(3, 2)), 2)?;
+    check_eq(perform(&mut nvm, Store(4, 2)), 0)?;
+    check_eq(perform(&mut nvm, Store(3, 5)), 0)?;
     nvm.restart(&Comeback::New, 0);
     check_eq(nvm.load(3)?, 1)?;
     check_eq(nvm.load(4)?, 2)
