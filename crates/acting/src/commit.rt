@@ -14,9 +14,9 @@ use crate::memory::seal;
 use crate::memory::store_words;
 use device::nvm::Nvm;
 use refusal::reason::Refusal;
-use ring::fill::place_words;
-use ring::info::places_taken;
-use ring::places::place_after;
+use ringunits::fill::place_words;
+use ringunits::info::places_taken;
+use ringunits::places::place_after;
 use ringlaws::setting::Setting;
 
 /// The word of the tail.

@@ -1,0 +1,2 @@
+pub mod Natures
+pub mod States
