@@ -14,10 +14,10 @@ use crate::memory::seal;
 use crate::memory::store_words;
 use device::nvm::Nvm;
 use refusal::reason::Refusal;
+use ringlaws::setting::Setting;
 use ringunits::fill::place_words;
 use ringunits::info::places_taken;
 use ringunits::places::place_after;
-use ringlaws::setting::Setting;
 
 /// The word of the tail.
 pub const TAIL_WORD: usize = 16;

@@ -1,5 +1,8 @@
 use mathlib.Core.Path.{refl}
+use Rattle.ringlaws.specs.TxnInfo.{member}
+use Rattle.ringlaws.proofs.Examples.{ring-examples}
 use Rattle.examples.specs.Records.{RecordExamples}
+use Rattle.examples.specs.Calls.{CallExamples}
 use Rattle.examples.proofs.examples_hold.Needs as need
 
 records : RecordExamples
@@ -23,5 +26,15 @@ records = record {
   ridgeWord = refl;
 }
 
+calls : CallExamples
+unfolding member
+calls = record {
+  thirtyFit = refl;
+  twentyEightFit = refl;
+  twentyNineDoNot = refl;
+  fifteenPasses = refl;
+  sixteenIs31 = refl;
+}
+
 pub returns : need.returns
-returns c = record { records = records }
+returns c = record { records = records; ring = ring-examples; calls = calls }
