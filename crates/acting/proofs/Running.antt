@@ -37,10 +37,10 @@ pair-at-last p bs r q s = ran-after PairPerforms PairRefuses p bs r q s
 
 -- a run of one device, stopped, is a stopped run of both
 pub nvm-halted : {acts : List NvmAct} {n k : NvmMeaning} {e : Refusal} (d : DiskMeaning) → HaltedOn nvmRules n acts e k → HaltedPair (both n d) (map onNvm acts) e (both k d)
-nvm-halted {acts} {n} {k} {e} d h = nvm-ran {V = Unit {0}} acts n k d (Err e) h
+nvm-halted {acts} {n} {k} {e} d h = nvm-ran acts n k d {V = Unit {0}} (Err e) h
 
 pub disk-halted : {acts : List DiskAct} {d k : DiskMeaning} {e : Refusal} (n : NvmMeaning) → HaltedOn diskRules d acts e k → HaltedPair (both n d) (map onDisk acts) e (both n k)
-disk-halted {acts} {d} {k} {e} n h = disk-ran {V = Unit {0}} acts d k n (Err e) h
+disk-halted {acts} {d} {k} {e} n h = disk-ran acts d k n {V = Unit {0}} (Err e) h
 
 -- where only darkness can stop the acts, they ended or were cut
 pub ran-or-cut : {V : Type 0} (acts : List Act) (m n : Pair) (r : Result V Refusal) → PairAccepts m acts → RanPair m acts r n → RanOrCut m acts r n
