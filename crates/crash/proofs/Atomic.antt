@@ -1,19 +1,18 @@
 -- A run that one last word puts in force is in force whole or not at all. Assumes nothing.
 use mathlib.Core.Path.{_≡_, refl, sym, ap, subst, _∙_}
-use mathlib.Core.Bool.{Bool, true, false, cond}
+use mathlib.Core.Bool.{Bool, true, cond}
 use mathlib.Core.List.{List, [], _∷_, _++_}
 use mathlib.Core.Logic.{_⊎_, inl, inr}
-use Prim.Native.Nat.{ℕ, _+_, _/_}
+use Prim.Native.Nat.{ℕ, _+_}
 use lib.Dec.{eqb}
 use native.Mathlib.Omega.{arith}
 use borrow.Author.Tests.{ne-eqb, eq-eqb}
 use Rattle.std.proofs.shelf.Tests.{cases-eq}
 use Rattle.device.specs.Pieces.{settled, settledValue, presentValue, isUnsettled}
 use Rattle.device.specs.Devices.{Meaning, Rules, Restarted}
-use Rattle.device.specs.Words.{NvmMeaning, NvmAct, Store, Flush, Fence, nvmRules}
-use Rattle.crash.specs.Runs.{Performed, done, then}
-use Rattle.crash.specs.Acts.{PerformedOn, Begun, contents, Rests, Blend, Mixed, Leads, Spares}
-use Rattle.crash.specs.Keeping.{kept, nvmKeeps, Brings}
+use Rattle.device.specs.Words.{NvmMeaning, NvmAct, nvmRules}
+use Rattle.crash.specs.Acts.{PerformedOn, Begun, contents, Rests, Blend, Leads, Spares}
+use Rattle.crash.specs.Keeping.{kept, nvmKeeps}
 use Rattle.crash.specs.Rows.{sealing}
 use Rattle.crash.specs.Crash.{Sealing-is-atomic}
 use Rattle.crash.proofs.Runs.{performed-split}

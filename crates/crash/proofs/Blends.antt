@@ -1,13 +1,12 @@
 -- What a cut at any act and a restart can bring back. Assumes nothing.
 use mathlib.Core.Path.{_≡_, refl, sym, ap, subst, _∙_}
-use mathlib.Core.Bool.{Bool, true, false}
-use mathlib.Core.List.{List, [], _∷_, _++_}
+use mathlib.Core.List.{List, [], _∷_}
 use mathlib.Core.Logic.{_⊎_, inl, inr}
 use Prim.Native.Nat.{ℕ}
 use Rattle.device.specs.Pieces.{Piece, settled, settledValue, presentValue, MaySettle, ComesBack}
 use Rattle.device.specs.Devices.{Meaning, Rules, Restarted}
-use Rattle.crash.specs.Runs.{Performed, done, then}
-use Rattle.crash.specs.Acts.{PerformedOn, Begun, contents, Rests, Blend, Mixed}
+use Rattle.crash.specs.Runs.{done, then}
+use Rattle.crash.specs.Acts.{PerformedOn, Begun, contents, Mixed}
 use Rattle.crash.specs.Keeping.{Tame, kept, Brings, Quiet}
 use Rattle.crash.specs.Crash.{Cut-phase-blends, Quiet-acts-show-nothing}
 use Rattle.crash.proofs.Runs.{each-front, each-turned}

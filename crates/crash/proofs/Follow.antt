@@ -1,20 +1,23 @@
 -- What a run leaves follows from its acts. Assumes nothing.
 use mathlib.Core.Path.{_≡_, refl, sym, ap, subst, _∙_}
-use mathlib.Core.Bool.{Bool, true, false, cond}
+use mathlib.Core.Bool.{Bool, true, false}
 use mathlib.Core.List.{List, [], _∷_, _++_}
-use mathlib.Core.Logic.{_⊎_, inl, inr}
 use Prim.Native.Nat.{ℕ}
+use native.Mathlib.Omega.{arith}
+use Rattle.std.specs.declared.result.Result.{Result}
+use Rattle.std.specs.declared.result.Result.the-variants.{Ok, Err}
 use Rattle.refusal.specs.declared.reason.Refusal.{Refusal}
 use Rattle.refusal.specs.declared.reason.Refusal.the-variants.{Dark}
-use Rattle.device.specs.Pieces.{Piece, settled, unsettled, settledValue, presentValue, isUnsettled, MaySettle, ComesBack}
-use Rattle.device.specs.Devices.{Meaning, Rules, darkened, Performs, Refuses, Restarted}
-use Rattle.crash.specs.Runs.{Performed, done, then, Stopped, Each}
-use Rattle.crash.specs.Acts.{PerformedOn, HaltedOn, CutOn, Begun, contents, Rests, Blend, Mixed, made, Calmer, Leads, Spares, Accepts}
-use Rattle.crash.specs.Keeping.{Tame, kept, Brings, Quiet}
-use Rattle.crash.specs.Crash.{Untouched-outlasts, Marks-follow, Phase-settles, Only-darkness-stops, Contents-follow}
-use Rattle.crash.proofs.Runs.{performed-split, each-append, each-front}
+use Rattle.device.specs.Pieces.{Piece, settled, unsettled, presentValue, isUnsettled}
+use Rattle.device.specs.Devices.{Meaning, Rules, darkened, Performs, Refuses}
+use Rattle.crash.specs.Runs.{done, then}
+use Rattle.crash.specs.Acts.{PerformedOn, HaltedOn, RanOn, RanOrDark, CutOn, Begun, Rests, made, Calmer, Leads, Spares, Accepts}
+use Rattle.crash.specs.Keeping.{Tame, kept}
+use Rattle.crash.specs.Narrow.{Size-stays-in-runs, Dark-runs-nothing, Untouched-stays}
+use Rattle.crash.specs.Crash.{Runs-have-begun, Untouched-outlasts, Marks-follow, Phase-settles, Only-darkness-stops, Contents-follow}
+use Rattle.crash.proofs.Runs.{each-front}
 use Rattle.crash.proofs.Tame.{calmer-self, calmer-present, calmer-settled}
-use Rattle.crash.proofs.Steps.{may-present, may-calmer, may-settled, settled-is, back-settled, back-rests, restart-settles, only-dark}
+use Rattle.crash.proofs.Steps.{may-present, may-calmer, may-settled, settled-is, back-settled, refusals-move-nothing, refusals-keep-size, dark-stays-dark, only-dark}
 
 -- lists of acts, one after another
 module _ {Act Mark Value : Type 0} (rules : Rules Act Mark Value) where
@@ -65,11 +68,36 @@ module _ {Act Mark Value : Type 0} (rules : Rules Act Mark Value) where
     pieces = λ i. ap (λ (k : Meaning Mark Value). k .piece i) (c .stops);
   }
 
-  begun-none : {acts : List Act} {m : Meaning Mark Value} → Begun rules m acts m
-  begun-none {acts} {m} = record { front = []; back = acts; parts = refl; middle = m; ran = done; size = refl; pieces = λ i. refl }
+  pub halted-begun : {acts : List Act} {m n : Meaning Mark Value} (e : Refusal) → HaltedOn rules m acts e n → Begun rules m acts n
+  halted-begun {n = n} e c = record {
+    front = c .front;
+    back = c .act ∷ c .back;
+    parts = c .parts;
+    middle = c .middle;
+    ran = c .ran;
+    size = refusals-keep-size rules (c .middle) n (c .act) e (c .stops);
+    pieces = refusals-move-nothing rules (c .middle) n (c .act) e (c .stops);
+  }
+
+  pub runs-have-begun : Runs-have-begun rules
+  runs-have-begun acts m n = ((λ r. performed-begun r), (λ c. cut-begun c), (λ e h. halted-begun e h))
 
   pub begun-size : {acts : List Act} {m n : Meaning Mark Value} → Begun rules m acts n → n .size ≡ m .size
   begun-size b = b .size ∙ run-size (b .ran)
+
+  pub size-stays-in-runs : Size-stays-in-runs rules
+  size-stays-in-runs acts m n b = begun-size b
+
+  -- a dark device performs nothing
+  dark-performed : {acts : List Act} {m n : Meaning Mark Value} → m .dark ≡ true → PerformedOn rules m acts n → n ≡ m
+  dark-performed e done = refl
+  dark-performed {m = m} e (then {p = p} {a = a} s r) = let h = dark-stays-dark rules m p a (Ok tt) e s .0 in let z : _≡_ {A = ℕ} 0 1 = cc in absurd (omega arith)
+
+  pub dark-runs-nothing : Dark-runs-nothing rules
+  dark-runs-nothing acts m n (Ok u) e r = dark-performed e r
+  dark-runs-nothing acts m n (Err x) e h =
+      let same = dark-performed e (h .ran) in
+      dark-stays-dark rules (h .middle) n (h .act) (Err x) (ap (λ (k : Meaning Mark Value). k .dark) same ∙ e) (h .stops) .1 ∙ same
 
   -- settled pieces that no act touches
   pub run-spares : (S : ℕ → Bool) {acts : List Act} {m n : Meaning Mark Value} → PerformedOn rules m acts n → Spares rules S acts
@@ -78,12 +106,16 @@ module _ {Act Mark Value : Type 0} (rules : Rules Act Mark Value) where
   run-spares S (then {a = a} s r) (here, sp) i v h e =
       run-spares S r sp i v h (may-settled v (ap (rules .makes a i) e ∙ here i h v) (s .pieces i))
 
+  pub untouched-stays : Untouched-stays rules
+  untouched-stays S acts m n quiet sp b i h =
+      let e = settled-is (m .piece i) (quiet i h) in
+      let sf = each-front _ (b .front) (b .back) (subst (Spares rules S) (b .parts) sp) in
+      b .pieces i ∙ run-spares S (b .ran) sf i _ h e ∙ sym e
+
   pub untouched-outlasts : Untouched-outlasts rules
   untouched-outlasts S acts m n p quiet sp b again i h =
       let e = settled-is (m .piece i) (quiet i h) in
-      let sf = each-front _ (b .front) (b .back) (subst (Spares rules S) (b .parts) sp) in
-      let mid = run-spares S (b .ran) sf i _ h e in
-      back-settled _ (b .pieces i ∙ mid) (again .pieces i) ∙ sym e
+      back-settled _ (untouched-stays S acts m n quiet sp b i h ∙ e) (again .pieces i) ∙ sym e
 
 module _ {Act Mark Value : Type 0} (rules : Rules Act Mark Value) (keeps : Act → ℕ → Value → Value) (tame : Tame rules keeps) where
   pub contents-follow : Contents-follow rules keeps
@@ -146,3 +178,8 @@ module _ {Act Mark Value : Type 0} (rules : Rules Act Mark Value) (keeps : Act �
   -- what is accepted at settled contents is accepted where everything is settled at them
   pub accepts-settled : (c : ℕ → Value) (m : Meaning Mark Value) (acts : List Act) → Rests c m → Accepts rules (m .size) (λ i. settled (c i)) acts → Accepts rules (m .size) (m .piece) acts
   accepts-settled c m acts calm = accepts-calmer (m .size) (λ i. settled (c i)) (m .piece) acts (λ i. subst (Calmer (settled (c i))) (sym (calm i)) refl)
+
+  pub ran-or-dark : {V : Type 0} (acts : List Act) (m n : Meaning Mark Value) (r : Result V Refusal)
+      → Accepts rules (m .size) (m .piece) acts → RanOn rules m acts r n → RanOrDark rules m acts r n
+  ran-or-dark acts m n (Ok v) acc h = h
+  ran-or-dark acts m n (Err e) acc h = only-darkness-stops acts m n e acc h

@@ -1,24 +1,23 @@
 -- Phases of one device of a pair. Assumes nothing.
-use mathlib.Core.Path.{_≡_, refl, sym, ap, subst, _∙_}
+use mathlib.Core.Path.{_≡_, refl, ap, subst, _∙_}
 use mathlib.Core.List.{List, [], _∷_, _++_, map}
-use mathlib.Core.Logic.{_⊎_, inl, inr}
-use Prim.Native.Nat.{ℕ, _*_, _≤_}
-use mathlib.Core.Bool.{false}
-use Rattle.device.specs.Pieces.{settled, settledValue, presentValue, isUnsettled, ComesBack}
-use Rattle.device.specs.Devices.{Meaning, Rules, Restarted}
+use mathlib.Core.Logic.{inl, inr}
+use Prim.Native.Nat.{ℕ}
+use Rattle.device.specs.Pieces.{settled, settledValue, presentValue, ComesBack}
+use Rattle.device.specs.Devices.{Meaning, Restarted}
 use Rattle.device.specs.Words.{NvmMeaning, NvmAct, wordsOf, nvmRules}
 use Rattle.device.specs.Sectors.{DiskMeaning, DiskAct, Sync, sectorsOf, diskRules}
-use Rattle.crash.specs.Acts.{PerformedOn, Begun, contents, Rests, Blend, Mixed, Leads, Accepts}
-use Rattle.crash.specs.Keeping.{nvmKeeps, diskKeeps, Brings, Quiet}
+use Rattle.crash.specs.Acts.{PerformedOn, Begun, Rests, Mixed, Leads}
+use Rattle.crash.specs.Keeping.{nvmKeeps, diskKeeps, Brings}
 use Rattle.crash.specs.Rows.{sealing, settling}
-use Rattle.crash.specs.Pair.{Pair, Act, onNvm, onDisk, PerformedPair, CutPair, PairRestarted, PairRests, PairAccepts, nvmPart, diskPart, settlingBoth}
-use Rattle.crash.specs.Phases.{Returns, SettlesBoth, Nvm-phase-settles, Nvm-phase-blends, Disk-phase-settles, Disk-phase-blends, Sealing-both-is-atomic, Any-devices-settle}
+use Rattle.crash.specs.Pair.{Pair, onNvm, onDisk, PerformedPair, CutPair, PairRestarted, PairRests, nvmPart, diskPart, settlingBoth}
+use Rattle.crash.specs.Phases.{Untouched-outlasts-both, Returns, Nvm-phase-settles, Nvm-phase-blends, Disk-phase-settles, Disk-phase-blends, Sealing-both-is-atomic, Any-devices-settle}
 use Rattle.crash.proofs.Tame.{nvm-is-tame, disk-is-tame}
-use Rattle.crash.proofs.Follow.{phase-settles}
+use Rattle.crash.proofs.Follow.{untouched-outlasts, phase-settles}
 use Rattle.crash.proofs.Blends.{cut-phase-blends, quiet-acts-show-nothing}
 use Rattle.crash.proofs.Atomic.{sealing-is-atomic}
 use Rattle.crash.proofs.Settles.{flushes-settle-all, sync-settles-all, settling-quiet, settling-accepted}
-use Rattle.crash.proofs.Pairs.{nvm-append, disk-append, nvm-own, disk-own, nvm-none, disk-none, runs-part, cuts-part}
+use Rattle.crash.proofs.Pairs.{nvm-append, disk-append, nvm-own, disk-own, nvm-none, disk-none, runs-part, cuts-part, pair-accepts}
 
 pub rests-mixed : {Mark Value : Type 0} (c d : ℕ → Value) (m : Meaning Mark Value) → Rests c m → Mixed c d m
 rests-mixed c d m calm = ((λ i. inl (ap settledValue (calm i))), (λ i. inl (ap presentValue (calm i))))
@@ -68,6 +67,13 @@ returned c d e f xs ys m n p calm bs cs x y again =
     let (disk-rests, disk-blend) = cut-phase-blends diskRules diskKeeps disk-is-tame e f ys (m .disk) (n .disk) (p .disk) (rests-mixed e f (m .disk) (calm .disk)) cs y (again .disk) in
     record { rests = record { nvm = nvm-rests; disk = disk-rests }; words = nvm-blend; sectors = disk-blend }
 
+pub untouched-outlasts-both : Untouched-outlasts-both
+untouched-outlasts-both S T acts m n p calm quiet sp sq k again =
+    let (d, x, y) = cuts-part acts m n k in (
+      untouched-outlasts nvmRules S (nvmPart acts) (m .nvm) (n .nvm) (p .nvm) calm sp x (again .nvm),
+      untouched-outlasts diskRules T (diskPart acts) (m .disk) (n .disk) (p .disk) quiet sq y (again .disk),
+    )
+
 pub nvm-phase-settles : Nvm-phase-settles
 nvm-phase-settles c d e acts m n calm leads r =
     let (x, y) = nvm-alone acts m n r in
@@ -107,10 +113,7 @@ nothing-after (x ∷ xs) = ap (λ t. x ∷ t) (nothing-after xs)
 
 pub any-devices-settle : Any-devices-settle
 any-devices-settle m ends = record {
-  accepted = record {
-    nvm = subst (Accepts nvmRules (m .nvm .size) (m .nvm .piece)) (sym nvm-part) (settling-accepted (m .nvm .size) (m .nvm .piece));
-    disk = subst (Accepts diskRules (m .disk .size) (m .disk .piece)) (sym disk-part) (refl, refl, tt);
-  };
+  accepted = pair-accepts m (settlingBoth (m .nvm .size)) (settling (m .nvm .size)) (Sync ∷ []) nvm-part disk-part (settling-accepted (m .nvm .size) (m .nvm .piece)) (refl, refl, tt);
   performed = λ n r.
       let (x, y) = runs-part (settlingBoth (m .nvm .size)) m n r in
       record {

@@ -2,19 +2,18 @@
 use mathlib.Core.Path.{_≡_, refl, sym, ap, subst, _∙_}
 use mathlib.Core.Bool.{Bool, true, false, _||_}
 use mathlib.Core.List.{List, [], _∷_, _++_, map}
-use mathlib.Core.Logic.{_⊎_, inl, inr}
 use Prim.Native.Nat.{ℕ}
 use Rattle.std.specs.declared.result.Result.{Result}
 use Rattle.std.specs.declared.result.Result.the-variants.{Ok, Err}
 use Rattle.refusal.specs.declared.reason.Refusal.{Refusal}
 use Rattle.refusal.specs.declared.reason.Refusal.the-variants.{Dark}
-use Rattle.device.specs.Devices.{Meaning, darkened, Performs, Refuses}
+use Rattle.device.specs.Devices.{Performs, Refuses}
 use Rattle.device.specs.Words.{NvmMeaning, NvmAct, nvmRules}
 use Rattle.device.specs.Sectors.{DiskMeaning, DiskAct, diskRules}
-use Rattle.crash.specs.Runs.{Performed, done, then, Stopped}
-use Rattle.crash.specs.Acts.{PerformedOn, HaltedOn, RanOn, Begun, Accepts}
+use Rattle.crash.specs.Runs.{done, then, Stopped}
+use Rattle.crash.specs.Acts.{PerformedOn, RanOn, Darkens, CutOn, Accepts}
 use Rattle.crash.specs.Keeping.{nvmKeeps, diskKeeps}
-use Rattle.crash.specs.Pair.{Pair, both, Act, onNvm, onDisk, isDark, PairPerforms, PairRefuses, PairDarkens, PerformedPair, HaltedPair, RanPair, CutPair, PairAccepts, nvmPart, diskPart}
+use Rattle.crash.specs.Pair.{Pair, both, Act, onNvm, onDisk, isDark, PairPerforms, PairRefuses, PairDarkens, PerformedPair, RanPair, CutPair, PairRanOrDark, PairAccepts, nvmPart, diskPart}
 use Rattle.crash.specs.Phases.{Runs-part, Cuts-part, Only-darkness-stops-both}
 use Rattle.crash.proofs.Tame.{calmer-self, nvm-is-tame, disk-is-tame}
 use Rattle.crash.proofs.Follow.{stops-dark}
@@ -117,6 +116,18 @@ only-darkness-stops-both acts m n e acc k =
     let (d, i) = refused-dark m (k .middle) n (k .front) (k .act) (k .back) e (subst (PairAccepts m) (k .parts) acc) (k .ran) (k .stops) in
     (d, record { front = k .front; act = k .act; back = k .back; parts = k .parts; middle = k .middle; ran = k .ran; stops = i })
 
+pub pair-ran-or-dark : {V : Type 0} (acts : List Act) (m n : Pair) (r : Result V Refusal) → PairAccepts m acts → RanPair m acts r n → PairRanOrDark m acts r n
+pair-ran-or-dark acts m n (Ok v) acc h = h
+pair-ran-or-dark acts m n (Err e) acc h = only-darkness-stops-both acts m n e acc h
+
+-- acceptance, part by part
+pub pair-accepts : (m : Pair) (acts : List Act) (xs : List NvmAct) (ys : List DiskAct) → nvmPart acts ≡ xs → diskPart acts ≡ ys
+    → Accepts nvmRules (m .nvm .size) (m .nvm .piece) xs → Accepts diskRules (m .disk .size) (m .disk .piece) ys → PairAccepts m acts
+pair-accepts m acts xs ys e h x y = record {
+  nvm = subst (Accepts nvmRules (m .nvm .size) (m .nvm .piece)) (sym e) x;
+  disk = subst (Accepts diskRules (m .disk .size) (m .disk .piece)) (sym h) y;
+}
+
 -- a run of one device is a run of the pair
 pub nvm-performed : {acts : List NvmAct} {n k : NvmMeaning} (d : DiskMeaning) → PerformedOn nvmRules n acts k → PerformedPair (both n d) (map onNvm acts) (both k d)
 nvm-performed d done = done
@@ -130,26 +141,45 @@ map-parts : {A B : Type 0} (f : A → B) (xs ys : List A) → map f (xs ++ ys) �
 map-parts f [] ys = refl
 map-parts f (x ∷ xs) ys = ap (λ t. f x ∷ t) (map-parts f xs ys)
 
-pub nvm-ran : {V : Type 0} (acts : List NvmAct) (n k : NvmMeaning) (d : DiskMeaning) (r : Result V Refusal) → RanOn nvmRules n acts r k → RanPair (both n d) (map onNvm acts) r (both k d)
-nvm-ran acts n k d (Ok v) h = nvm-performed d h
-nvm-ran acts n k d (Err e) h = record {
-  front = map onNvm (h .front);
-  act = onNvm (h .act);
-  back = map onNvm (h .back);
-  parts = ap (map onNvm) (h .parts) ∙ map-parts onNvm (h .front) (h .act ∷ h .back);
-  middle = both (h .middle) d;
-  ran = nvm-performed d (h .ran);
-  stops = (h .stops, refl);
-}
+-- also where it stops
+module _ (acts : List NvmAct) (n k : NvmMeaning) (d : DiskMeaning) where
+  nvm-stopped : (Stops : NvmMeaning → NvmAct → NvmMeaning → Type 0) (Both : Pair → Act → Pair → Type 0)
+      → ((m p : NvmMeaning) (a : NvmAct) → Stops m a p → Both (both m d) (onNvm a) (both p d))
+      → Stopped (Performs nvmRules) Stops n acts k → Stopped PairPerforms Both (both n d) (map onNvm acts) (both k d)
+  nvm-stopped Stops Both lift h = record {
+    front = map onNvm (h .front);
+    act = onNvm (h .act);
+    back = map onNvm (h .back);
+    parts = ap (map onNvm) (h .parts) ∙ map-parts onNvm (h .front) (h .act ∷ h .back);
+    middle = both (h .middle) d;
+    ran = nvm-performed d (h .ran);
+    stops = lift (h .middle) k (h .act) (h .stops);
+  }
 
-pub disk-ran : {V : Type 0} (acts : List DiskAct) (d k : DiskMeaning) (n : NvmMeaning) (r : Result V Refusal) → RanOn diskRules d acts r k → RanPair (both n d) (map onDisk acts) r (both n k)
-disk-ran acts d k n (Ok v) h = disk-performed n h
-disk-ran acts d k n (Err e) h = record {
-  front = map onDisk (h .front);
-  act = onDisk (h .act);
-  back = map onDisk (h .back);
-  parts = ap (map onDisk) (h .parts) ∙ map-parts onDisk (h .front) (h .act ∷ h .back);
-  middle = both n (h .middle);
-  ran = disk-performed n (h .ran);
-  stops = (h .stops, refl);
-}
+  pub nvm-ran : {V : Type 0} (r : Result V Refusal) → RanOn nvmRules n acts r k → RanPair (both n d) (map onNvm acts) r (both k d)
+  nvm-ran (Ok v) h = nvm-performed d h
+  nvm-ran (Err e) h = nvm-stopped (λ m a p. Refuses nvmRules m a e p) (λ m a p. PairRefuses m a e p) (λ m p a s. (s, refl)) h
+
+  pub nvm-cut : CutOn nvmRules n acts k → CutPair (both n d) (map onNvm acts) (both k d)
+  nvm-cut h = nvm-stopped Darkens PairDarkens (λ m p a s. (s, refl)) h
+
+module _ (acts : List DiskAct) (d k : DiskMeaning) (n : NvmMeaning) where
+  disk-stopped : (Stops : DiskMeaning → DiskAct → DiskMeaning → Type 0) (Both : Pair → Act → Pair → Type 0)
+      → ((m p : DiskMeaning) (a : DiskAct) → Stops m a p → Both (both n m) (onDisk a) (both n p))
+      → Stopped (Performs diskRules) Stops d acts k → Stopped PairPerforms Both (both n d) (map onDisk acts) (both n k)
+  disk-stopped Stops Both lift h = record {
+    front = map onDisk (h .front);
+    act = onDisk (h .act);
+    back = map onDisk (h .back);
+    parts = ap (map onDisk) (h .parts) ∙ map-parts onDisk (h .front) (h .act ∷ h .back);
+    middle = both n (h .middle);
+    ran = disk-performed n (h .ran);
+    stops = lift (h .middle) k (h .act) (h .stops);
+  }
+
+  pub disk-ran : {V : Type 0} (r : Result V Refusal) → RanOn diskRules d acts r k → RanPair (both n d) (map onDisk acts) r (both n k)
+  disk-ran (Ok v) h = disk-performed n h
+  disk-ran (Err e) h = disk-stopped (λ m a p. Refuses diskRules m a e p) (λ m a p. PairRefuses m a e p) (λ m p a s. (s, refl)) h
+
+  pub disk-cut : CutOn diskRules d acts k → CutPair (both n d) (map onDisk acts) (both n k)
+  disk-cut h = disk-stopped Darkens PairDarkens (λ m p a s. (s, refl)) h

@@ -1,20 +1,20 @@
 -- Stores, flushes of their lines and a fence; writes and a sync. Assumes nothing.
-use mathlib.Core.Path.{_≡_, refl, sym, ap, subst, _∙_}
+use mathlib.Core.Path.{_≡_, refl, sym, ap, _∙_}
 use mathlib.Core.Bool.{Bool, true, false, cond, _||_}
 use mathlib.Core.List.{List, [], _∷_, _++_}
-use mathlib.Core.Logic.{_⊎_, inl, inr}
-use Prim.Native.Nat.{ℕ, zero, suc, _+_, _*_, _/_, _%_, _<_}
-use lib.Dec.{eqb, leb}
+use mathlib.Core.Logic.{inl}
+use Prim.Native.Nat.{ℕ, _+_, _/_}
+use lib.Dec.{eqb}
 use native.Mathlib.Omega.{arith}
 use borrow.Author.Tests.{eqb-true, eq-eqb}
 use Rattle.std.proofs.shelf.Ways.{tells}
-use Rattle.device.specs.Pieces.{Piece, settled, unsettled, settledValue, presentValue, isUnsettled}
+use Rattle.device.specs.Pieces.{Piece, settled, unsettled, settledValue, presentValue}
 use Rattle.device.specs.Devices.{Rules}
 use Rattle.device.specs.Words.{waiting, flushed, Word, NvmAct, Store, Flush, Fence, flushedWord, fencedWord, nvmRules}
-use Rattle.device.specs.Sectors.{waits, Sector, DiskAct, Write, Sync, sectorOf, anyBelow, diskRules}
+use Rattle.device.specs.Sectors.{DiskAct, Write, Sync, diskRules}
 use Rattle.crash.specs.Acts.{made, Leads, Accepts}
-use Rattle.crash.specs.Keeping.{Tame, nvmKeeps, diskKeeps, kept, Brings, Phase}
-use Rattle.crash.specs.Rows.{nvmTouches, diskTouches, storesWord, flushesLine, Once, StoreWithin, FlushWithin, WriteWithin, Stores, Flushes, sealing, Stores-are-a-phase, Writes-are-a-phase, Sealing-is-a-phase}
+use Rattle.crash.specs.Keeping.{Tame, nvmKeeps, diskKeeps, kept, Brings}
+use Rattle.crash.specs.Rows.{nvmTouches, diskTouches, storesWord, flushesLine, Once, StoreWithin, FlushWithin, WriteWithin, Stores, Flushes, Stores-are-a-phase, Writes-are-a-phase, Sealing-is-a-phase}
 use Rattle.crash.proofs.Runs.{each-append, each-turned}
 use Rattle.crash.proofs.Follow.{made-append, accepts-append}
 use Rattle.crash.proofs.Tame.{nvm-is-tame, disk-is-tame}

@@ -1,17 +1,17 @@
 -- Lists of stores, flushes and writes: how they join, and rows of them. Assumes nothing.
-use mathlib.Core.Path.{_≡_, refl, sym, ap, subst, _∙_}
-use mathlib.Core.Bool.{Bool, true, false, cond, _||_, _&&_}
+use mathlib.Core.Path.{_≡_, refl, ap, _∙_}
+use mathlib.Core.Bool.{true, false, cond, _||_}
 use mathlib.Core.List.{List, [], _∷_, _++_}
 use Prim.Native.Nat.{ℕ, zero, suc, _+_, _-_, _*_, _/_, _<_, _≤_}
-use lib.Dec.{eqb, leb, ltb}
+use lib.Dec.{eqb}
 use lib.ListN.{length, getD}
 use native.Mathlib.Omega.{arith}
 use Rattle.std.proofs.shelf.Ways.{tells}
-use Rattle.device.specs.Words.{NvmAct, Store, Flush, Fence, nvmRules}
-use Rattle.device.specs.Sectors.{DiskAct, Write, Sync, diskRules}
-use Rattle.crash.specs.Runs.{eachOf, Each, some}
+use Rattle.device.specs.Words.{NvmAct, Store, Flush, nvmRules}
+use Rattle.device.specs.Sectors.{DiskAct, Write, diskRules}
+use Rattle.crash.specs.Runs.{eachOf}
 use Rattle.crash.specs.Keeping.{nvmKeeps, diskKeeps, kept}
-use Rattle.crash.specs.Rows.{storing, flushing, inside, nvmTouches, nvmFlushes, diskTouches, storesWord, flushesLine, writesBlock, Once, StoreWithin, FlushWithin, WriteWithin, Stores, Flushes, Writes, Unstored-is-spared, Unwritten-is-spared}
+use Rattle.crash.specs.Rows.{storing, flushing, inside, nvmTouches, nvmFlushes, diskTouches, storesWord, flushesLine, writesBlock, StoreWithin, FlushWithin, WriteWithin, Stores, Flushes, Writes, Unstored-is-spared, Unwritten-is-spared}
 use Rattle.crash.proofs.Runs.{each-append, each-each}
 use Rattle.crash.proofs.Tame.{nvm-is-tame, disk-is-tame}
 use Rattle.crash.proofs.Follow.{kept-append}

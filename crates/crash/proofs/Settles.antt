@@ -1,20 +1,16 @@
 -- Flushes of all lines and a fence settle a memory, and a sync a disk, whatever they held. Assumes nothing.
-use mathlib.Core.Path.{_≡_, refl, sym, ap, subst, _∙_}
+use mathlib.Core.Path.{_≡_, refl, ap, _∙_}
 use mathlib.Core.Bool.{Bool, true, false, cond}
-use mathlib.Core.List.{List, [], _∷_, _++_}
-use mathlib.Core.Logic.{_⊎_, inl, inr}
-use Prim.Native.Nat.{ℕ, _+_, _*_, _/_, _<_, _≤_}
-use lib.Dec.{eqb}
+use mathlib.Core.List.{[], _∷_}
+use Prim.Native.Nat.{ℕ, _+_, _*_, _/_, _≤_}
 use native.Mathlib.Omega.{arith}
-use native.Mathlib.Decide.{decLt}
 use Rattle.std.proofs.shelf.Ways.{tells}
-use Rattle.device.specs.Pieces.{Piece, settled, unsettled, settledValue, presentValue, isUnsettled}
-use Rattle.device.specs.Words.{NvmMeaning, waiting, flushed, Word, NvmAct, Store, Flush, Fence, flushedWord, fencedWord, wordsOf, nvmRules}
-use Rattle.device.specs.Sectors.{DiskMeaning, DiskAct, Sync, sectorsOf, diskRules}
-use Rattle.crash.specs.Runs.{Performed, done, then, Each}
-use Rattle.crash.specs.Acts.{PerformedOn, Rests, made, Accepts}
-use Rattle.crash.specs.Keeping.{nvmKeeps, diskKeeps, Quiet}
-use Rattle.crash.specs.Rows.{flushing, settling, inside, flushesLine, Flushes}
+use Rattle.device.specs.Pieces.{settled, unsettled, presentValue, isUnsettled}
+use Rattle.device.specs.Words.{Word, Fence, flushedWord, fencedWord, nvmRules}
+use Rattle.crash.specs.Runs.{done, then}
+use Rattle.crash.specs.Acts.{made, Accepts}
+use Rattle.crash.specs.Keeping.{nvmKeeps, Quiet}
+use Rattle.crash.specs.Rows.{flushing, settling, inside}
 use Rattle.crash.specs.Crash.{Flushes-settle-all, Sync-settles-all}
 use Rattle.crash.proofs.Runs.{each-append, each-turned}
 use Rattle.crash.proofs.Tame.{nvm-is-tame}

@@ -1,24 +1,21 @@
 -- What one act, performed or refused, and a restart do to a piece. Assumes nothing.
 use mathlib.Core.Path.{_≡_, refl, sym, ap, subst, _∙_}
 use mathlib.Core.Bool.{Bool, true, false, cond}
-use mathlib.Core.List.{List, [], _∷_, _++_}
-use mathlib.Core.Logic.{_⊎_, inl, inr}
+use mathlib.Core.List.{[], _∷_}
+use mathlib.Core.Logic.{inl, inr}
 use Prim.Native.Nat.{ℕ, _/_, _%_}
-use lib.Dec.{eqb}
 use native.Mathlib.Omega.{arith}
 use borrow.Author.Tests.{eq-eqb}
-use Rattle.std.specs.declared.option.Option.{Option}
 use Rattle.std.specs.declared.option.Option.the-variants.{Some, None}
 use Rattle.std.specs.declared.result.Result.{Result}
 use Rattle.std.specs.declared.result.Result.the-variants.{Ok, Err}
 use Rattle.refusal.specs.declared.reason.Refusal.{Refusal}
 use Rattle.refusal.specs.declared.reason.Refusal.the-variants.{Beyond, Unsettled, Dark}
 use Rattle.device.specs.Pieces.{Piece, settled, unsettled, settledValue, presentValue, isUnsettled, MaySettle, ComesBack}
-use Rattle.device.specs.Devices.{Meaning, Rules, darkened, refusalOf, Performs, Refuses, Acted, Restarted}
-use Rattle.device.specs.Words.{NvmMeaning, NvmAct, Store, Fence, flushed, wordsOf, fencedWord, nvmRules}
-use Rattle.device.specs.Sectors.{DiskMeaning, DiskAct, Write, Sync, sectorOf, sectorsOf, diskRules}
-use Rattle.crash.specs.Runs.{Performed, done, then}
-use Rattle.crash.specs.Acts.{RanOn, contents, Rests, Calmer}
+use Rattle.device.specs.Devices.{Meaning, Rules, darkened, refusalOf, Refuses, Acted}
+use Rattle.device.specs.Words.{Store, wordsOf, fencedWord, nvmRules}
+use Rattle.device.specs.Sectors.{Write, sectorOf, sectorsOf, diskRules}
+use Rattle.crash.specs.Acts.{RanOn, Calmer}
 use Rattle.crash.specs.Keeping.{Tame, nvmKeeps, diskKeeps}
 use Rattle.crash.specs.Narrow.{Fence-settles, Sync-settles, Store-shows, Write-shows, Settling-is-done, Nothing-else-moves, Refusals-move-nothing, Size-stays, Dark-stays-dark, Restart-settles}
 use Rattle.crash.proofs.Runs.{performed-one, stopped-one}

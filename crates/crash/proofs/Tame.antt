@@ -1,16 +1,15 @@
 -- Both kinds of device keep what the crash laws rest on. Assumes nothing.
-use mathlib.Core.Path.{_≡_, refl, sym, ap, subst, _∙_}
+use mathlib.Core.Path.{_≡_, refl, sym, ap, _∙_}
 use mathlib.Core.Bool.{Bool, true, false, cond, _||_}
-use mathlib.Core.List.{List}
 use mathlib.Core.Logic.{_⊎_, inl, inr}
-use Prim.Native.Nat.{ℕ, zero, suc, _+_, _*_, _/_, _%_, _<_}
+use Prim.Native.Nat.{ℕ, zero, suc, _+_, _*_, _/_, _%_}
 use lib.Dec.{eqb}
 use native.Mathlib.Omega.{arith}
 use Rattle.device.specs.Pieces.{Piece, settled, unsettled, settledValue, presentValue, isUnsettled}
-use Rattle.device.specs.Words.{WordMark, waiting, flushed, Word, NvmAct, Store, Flush, Fence, flushedWord, fencedWord, nvmMakes, nvmBlocked, nvmRules}
-use Rattle.device.specs.Sectors.{SectorMark, waits, Sector, DiskAct, Write, Sync, sectorOf, diskMakes, anyBelow, diskBlocked, diskRules}
+use Rattle.device.specs.Words.{waiting, flushed, Word, NvmAct, Store, Flush, Fence, flushedWord, fencedWord, nvmMakes, nvmBlocked}
+use Rattle.device.specs.Sectors.{waits, Sector, DiskAct, Write, Sync, sectorOf, diskMakes, anyBelow, diskBlocked}
 use Rattle.crash.specs.Acts.{Calmer}
-use Rattle.crash.specs.Keeping.{Tame, nvmKeeps, diskKeeps, Nvm-is-tame, Disk-is-tame}
+use Rattle.crash.specs.Keeping.{nvmKeeps, diskKeeps, Nvm-is-tame, Disk-is-tame}
 
 module _ {Mark Value : Type 0} where
   pub calmer-self : (c : Piece Mark Value) → Calmer c c

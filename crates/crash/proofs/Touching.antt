@@ -1,12 +1,12 @@
 -- Acts that give some pieces new values, no piece twice, on a device of any kind. Assumes nothing.
-use mathlib.Core.Path.{_≡_, refl, sym, ap, subst, _∙_}
+use mathlib.Core.Path.{_≡_, refl, sym, ap, _∙_}
 use mathlib.Core.Bool.{Bool, true, false, cond, _||_}
 use mathlib.Core.List.{List, [], _∷_, _++_}
 use mathlib.Core.Logic.{_⊎_, inl, inr}
 use Prim.Native.Nat.{ℕ, zero, suc, _+_, _*_, _/_, _%_, _<_}
 use lib.Dec.{eqb}
 use native.Mathlib.Omega.{arith}
-use borrow.Author.Tests.{eqb-true, eq-eqb}
+use borrow.Author.Tests.{eq-eqb}
 use Rattle.std.proofs.shelf.Tests.{cases-eq}
 use Rattle.device.specs.Pieces.{Piece, settled, unsettled, presentValue, isUnsettled}
 use Rattle.device.specs.Devices.{Rules}
@@ -17,7 +17,6 @@ use Rattle.crash.specs.Acts.{Accepts, Spares}
 use Rattle.crash.specs.Keeping.{Tame, nvmKeeps, diskKeeps, kept, Brings}
 use Rattle.crash.specs.Rows.{nvmTouches, diskTouches, Once}
 use Rattle.crash.proofs.Steps.{settled-is}
-use Rattle.crash.proofs.Tame.{nvm-is-tame, disk-is-tame}
 
 pub never : true ≡ false → ⊥
 never e = let z : _≡_ {A = ℕ} 0 1 = cc in omega arith

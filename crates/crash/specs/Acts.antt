@@ -5,7 +5,9 @@ use mathlib.Core.List.{List, [], _∷_, _++_}
 use mathlib.Core.Logic.{_⊎_}
 use Prim.Native.Nat.{ℕ}
 use Rattle.std.specs.declared.result.Result.{Result}
+use Rattle.std.specs.declared.result.Result.the-variants.{Ok, Err}
 use Rattle.refusal.specs.declared.reason.Refusal.{Refusal}
+use Rattle.refusal.specs.declared.reason.Refusal.the-variants.{Dark}
 use Rattle.device.specs.Pieces.{Piece, settled, unsettled, settledValue, presentValue}
 use Rattle.device.specs.Devices.{Meaning, Rules, darkened, Performs, Refuses}
 use Rattle.crash.specs.Runs.{Performed, Stopped, Halted, Ran, Each}
@@ -29,6 +31,11 @@ Darkens m a n = n ≡ darkened m
 -- the acts before some act were performed, and then the device was dark
 abbrev pub CutOn : {Act Mark Value : Type 0} → Rules Act Mark Value → Meaning Mark Value → List Act → Meaning Mark Value → Type 0
 CutOn rules = Stopped (Performs rules) Darkens
+
+-- what a call promises of acts that only darkness stops: all were performed, or it answers Dark and the run was cut
+abbrev pub RanOrDark : {Act Mark Value V : Type 0} → Rules Act Mark Value → Meaning Mark Value → List Act → Result V Refusal → Meaning Mark Value → Type 0
+RanOrDark rules m acts (Ok v) n = PerformedOn rules m acts n
+RanOrDark rules m acts (Err e) n = (e ≡ Dark) × CutOn rules m acts n
 
 -- A beginning of the acts was performed, all or none of them too, and since then no piece has changed: power may have failed
 -- or not. A performed run has begun, and so has a cut one.
@@ -68,7 +75,7 @@ Calmer c (settled v) = presentValue c ≡ v
 Calmer (settled x) (unsettled k s p) = ⊥
 Calmer (unsettled j r q) (unsettled k s p) = (j ≡ k) × (q ≡ p)
 
--- The acts are a phase from contents c to contents d: where everything is settled at c, they leave everything settled at d.
+-- the acts lead from contents c to contents d: where everything is settled at c, they leave everything settled at d
 abbrev pub Leads : {Act Mark Value : Type 0} → Rules Act Mark Value → (ℕ → Value) → List Act → (ℕ → Value) → Type 0
 Leads rules c acts d = (i : ℕ) → made rules acts i (settled (c i)) ≡ settled (d i)
 

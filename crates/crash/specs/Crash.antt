@@ -16,6 +16,14 @@ use Rattle.crash.specs.Keeping.{kept, nvmKeeps, Brings, Quiet}
 use Rattle.crash.specs.Rows.{sealing, settling}
 
 module _ {Act Mark Value : Type 0} (rules : Rules Act Mark Value) where
+  -- a run that was performed whole has begun, and so has one that was cut or stopped by a refusal
+  abbrev pub Runs-have-begun : Type 0
+  Runs-have-begun =
+      (acts : List Act) (m n : Meaning Mark Value)
+      → (PerformedOn rules m acts n → Begun rules m acts n)
+      × (CutOn rules m acts n → Begun rules m acts n)
+      × ((e : Refusal) → HaltedOn rules m acts e n → Begun rules m acts n)
+
   -- What was settled and no act touches outlasts the acts, however many of them were performed, and any restart.
   abbrev pub Untouched-outlasts : Type 0
   Untouched-outlasts =

@@ -5,14 +5,14 @@ use mathlib.Core.Bool.{Bool, true, false}
 use mathlib.Core.List.{List}
 use Prim.Native.Nat.{ℕ, _/_, _%_}
 use Rattle.std.specs.declared.result.Result.{Result}
-use Rattle.std.specs.declared.result.Result.the-variants.{Ok, Err}
+use Rattle.std.specs.declared.result.Result.the-variants.{Err}
 use Rattle.refusal.specs.declared.reason.Refusal.{Refusal}
 use Rattle.refusal.specs.declared.reason.Refusal.the-variants.{Dark}
-use Rattle.device.specs.Pieces.{settled, unsettled, presentValue, isUnsettled}
+use Rattle.device.specs.Pieces.{settled, unsettled, isUnsettled}
 use Rattle.device.specs.Devices.{Meaning, Rules, Performs, Refuses, Acted, Restarted}
-use Rattle.device.specs.Words.{NvmMeaning, NvmAct, Store, Fence, flushed, wordsOf, nvmRules}
-use Rattle.device.specs.Sectors.{DiskMeaning, DiskAct, Write, Sync, sectorOf, sectorsOf, diskRules}
-use Rattle.crash.specs.Acts.{contents, Rests}
+use Rattle.device.specs.Words.{NvmMeaning, Store, Fence, flushed, wordsOf, nvmRules}
+use Rattle.device.specs.Sectors.{DiskMeaning, Write, Sync, sectorOf, sectorsOf, diskRules}
+use Rattle.crash.specs.Acts.{RanOn, Begun, contents, Rests, Spares}
 
 -- after a performed fence a word that was flushed is settled at its present value
 abbrev pub Fence-settles : Type 0
@@ -51,6 +51,23 @@ module _ {Act Mark Value : Type 0} (rules : Rules Act Mark Value) where
   -- a dark device refuses every act for darkness, and stays as it is
   abbrev pub Dark-stays-dark : Type 0
   Dark-stays-dark = (m n : Meaning Mark Value) (a : Act) (r : Result (Unit {0}) Refusal) → m .dark ≡ true → Acted rules m a r n → (r ≡ Err Dark) × (n ≡ m)
+
+  -- nor does a run, performed, cut or stopped by a refusal
+  abbrev pub Size-stays-in-runs : Type 0
+  Size-stays-in-runs = (acts : List Act) (m n : Meaning Mark Value) → Begun rules m acts n → n .size ≡ m .size
+
+  -- a run of acts on a dark device changes nothing
+  abbrev pub Dark-runs-nothing : Type 0
+  Dark-runs-nothing = (acts : List Act) (m n : Meaning Mark Value) (r : Result (Unit {0}) Refusal) → m .dark ≡ true → RanOn rules m acts r n → n ≡ m
+
+  -- a settled piece that no act touches stays settled at its value
+  abbrev pub Untouched-stays : Type 0
+  Untouched-stays =
+      (S : ℕ → Bool) (acts : List Act) (m n : Meaning Mark Value)
+      → ((i : ℕ) → S i ≡ true → isUnsettled (m .piece i) ≡ false)
+      → Spares rules S acts
+      → Begun rules m acts n
+      → (i : ℕ) → S i ≡ true → n .piece i ≡ m .piece i
 
 -- when power returns everything is settled
 abbrev pub Restart-settles : (Mark Value : Type 0) → Type 0

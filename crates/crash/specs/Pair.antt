@@ -1,11 +1,13 @@
 -- Both devices at once: a non-volatile memory and a disk. Assumes nothing.
 use mathlib.Core.Path.{_≡_}
-use mathlib.Core.Bool.{Bool, true, false, _||_}
+use mathlib.Core.Bool.{Bool, _||_}
 use mathlib.Core.List.{List, [], _∷_, _++_, map}
 use Prim.Native.Nat.{ℕ}
 use Rattle.std.specs.declared.result.Result.{Result}
+use Rattle.std.specs.declared.result.Result.the-variants.{Ok, Err}
 use Rattle.refusal.specs.declared.reason.Refusal.{Refusal}
-use Rattle.device.specs.Devices.{Meaning, darkened, Performs, Refuses, Restarted}
+use Rattle.refusal.specs.declared.reason.Refusal.the-variants.{Dark}
+use Rattle.device.specs.Devices.{darkened, Performs, Refuses, Restarted}
 use Rattle.device.specs.Words.{NvmMeaning, NvmAct, nvmRules}
 use Rattle.device.specs.Sectors.{DiskMeaning, DiskAct, Sync, diskRules}
 use Rattle.crash.specs.Runs.{Performed, Stopped, Halted, Ran}
@@ -55,6 +57,11 @@ RanPair = Ran PairPerforms PairRefuses
 
 abbrev pub CutPair : Pair → List Act → Pair → Type 0
 CutPair = Stopped PairPerforms PairDarkens
+
+-- what a call promises of acts that only darkness stops
+abbrev pub PairRanOrDark : {V : Type 0} → Pair → List Act → Result V Refusal → Pair → Type 0
+PairRanOrDark m acts (Ok v) n = PerformedPair m acts n
+PairRanOrDark m acts (Err e) n = (e ≡ Dark) × CutPair m acts n
 
 -- power returns to both devices
 pub record PairRestarted (m n : Pair) : Type 0 where

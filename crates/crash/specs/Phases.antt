@@ -1,7 +1,7 @@
 -- What runs, cuts and restarts leave of both devices at once, where a phase touches one device. Assumes nothing.
 use mathlib.Core.Path.{_≡_}
 use mathlib.Core.Bool.{Bool, true, false}
-use mathlib.Core.List.{List, [], _∷_, _++_, map}
+use mathlib.Core.List.{List, _++_, map}
 use mathlib.Core.Logic.{_⊎_}
 use Prim.Native.Nat.{ℕ, _*_, _≤_}
 use Rattle.refusal.specs.declared.reason.Refusal.{Refusal}
@@ -27,6 +27,18 @@ Cuts-part = (acts : List Act) (m n : Pair) → CutPair m acts n
 -- where both devices accept their acts, only darkness stops a run
 abbrev pub Only-darkness-stops-both : Type 0
 Only-darkness-stops-both = (acts : List Act) (m n : Pair) (e : Refusal) → PairAccepts m acts → HaltedPair m acts e n → (e ≡ Dark) × CutPair m acts n
+
+-- What was settled on either device and no act touches outlasts a cut of both and a restart.
+abbrev pub Untouched-outlasts-both : Type 0
+Untouched-outlasts-both =
+    (S T : ℕ → Bool) (acts : List Act) (m n p : Pair)
+    → ((w : ℕ) → S w ≡ true → isUnsettled (m .nvm .piece w) ≡ false)
+    → ((s : ℕ) → T s ≡ true → isUnsettled (m .disk .piece s) ≡ false)
+    → Spares nvmRules S (nvmPart acts)
+    → Spares diskRules T (diskPart acts)
+    → CutPair m acts n
+    → PairRestarted n p
+    → ((w : ℕ) → S w ≡ true → p .nvm .piece w ≡ m .nvm .piece w) × ((s : ℕ) → T s ≡ true → p .disk .piece s ≡ m .disk .piece s)
 
 -- what a restart of both devices may bring back
 pub record Returns (c d : ℕ → ℕ) (e f : ℕ → List ℕ) (p : Pair) : Type 0 where

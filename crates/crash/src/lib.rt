@@ -4,11 +4,11 @@ ghost use Rattle.device.specs.Sectors.{SectorMark, diskRules};
 ghost use Rattle.device.specs.Words.{WordMark, nvmRules};
 ghost use Prim.Native.Nat.{ℕ};
 ghost use mathlib.Core.List.{List};
-ghost use Rattle.crash.specs.Crash.{Untouched-outlasts, Marks-follow, Phase-settles, Only-darkness-stops, Contents-follow, Cut-phase-blends, Quiet-acts-show-nothing, Sealing-is-atomic, Flushes-settle-all, Sync-settles-all};
+ghost use Rattle.crash.specs.Crash.{Runs-have-begun, Untouched-outlasts, Marks-follow, Phase-settles, Only-darkness-stops, Contents-follow, Cut-phase-blends, Quiet-acts-show-nothing, Sealing-is-atomic, Flushes-settle-all, Sync-settles-all};
 ghost use Rattle.crash.specs.Keeping.{Nvm-is-tame, Disk-is-tame, nvmKeeps, diskKeeps};
-ghost use Rattle.crash.specs.Narrow.{Fence-settles, Sync-settles, Store-shows, Write-shows, Settling-is-done, Nothing-else-moves, Refusals-move-nothing, Size-stays, Dark-stays-dark, Restart-settles};
-ghost use Rattle.crash.specs.Phases.{Runs-part, Cuts-part, Only-darkness-stops-both, Nvm-phase-settles, Nvm-phase-blends, Disk-phase-settles, Disk-phase-blends, Sealing-both-is-atomic, Any-devices-settle};
-ghost use Rattle.crash.specs.Rows.{Stores-are-a-phase, Writes-are-a-phase, Sealing-is-a-phase};
+ghost use Rattle.crash.specs.Narrow.{Fence-settles, Sync-settles, Store-shows, Write-shows, Settling-is-done, Nothing-else-moves, Refusals-move-nothing, Size-stays, Dark-stays-dark, Untouched-stays, Size-stays-in-runs, Dark-runs-nothing, Restart-settles};
+ghost use Rattle.crash.specs.Phases.{Runs-part, Cuts-part, Only-darkness-stops-both, Untouched-outlasts-both, Nvm-phase-settles, Nvm-phase-blends, Disk-phase-settles, Disk-phase-blends, Sealing-both-is-atomic, Any-devices-settle};
+ghost use Rattle.crash.specs.Rows.{Stores-are-a-phase, Writes-are-a-phase, Sealing-is-a-phase, Unstored-is-spared, Unwritten-is-spared};
 
 /// Both kinds of device keep what every law below rests on.
 pub fn devices_are_tame() -> u8
@@ -27,6 +27,9 @@ pub fn memory_is_narrow() -> u8
     ensures refuses { λ _. ⌜ Refusals-move-nothing nvmRules ⌝ }
     ensures sizes { λ _. ⌜ Size-stays nvmRules ⌝ }
     ensures darkness { λ _. ⌜ Dark-stays-dark nvmRules ⌝ }
+    ensures untouched { λ _. ⌜ Untouched-stays nvmRules ⌝ }
+    ensures runSizes { λ _. ⌜ Size-stays-in-runs nvmRules ⌝ }
+    ensures darkRuns { λ _. ⌜ Dark-runs-nothing nvmRules ⌝ }
     ensures restarts { λ _. ⌜ Restart-settles WordMark ℕ ⌝ }
 {
     0
@@ -41,6 +44,9 @@ pub fn disk_is_narrow() -> u8
     ensures refuses { λ _. ⌜ Refusals-move-nothing diskRules ⌝ }
     ensures sizes { λ _. ⌜ Size-stays diskRules ⌝ }
     ensures darkness { λ _. ⌜ Dark-stays-dark diskRules ⌝ }
+    ensures untouched { λ _. ⌜ Untouched-stays diskRules ⌝ }
+    ensures runSizes { λ _. ⌜ Size-stays-in-runs diskRules ⌝ }
+    ensures darkRuns { λ _. ⌜ Dark-runs-nothing diskRules ⌝ }
     ensures restarts { λ _. ⌜ Restart-settles SectorMark (List ℕ) ⌝ }
 {
     0
@@ -48,6 +54,7 @@ pub fn disk_is_narrow() -> u8
 
 /// What runs, cuts and restarts leave of a memory.
 pub fn memory_outlasts_cuts() -> u8
+    ensures begun { λ _. ⌜ Runs-have-begun nvmRules ⌝ }
     ensures untouched { λ _. ⌜ Untouched-outlasts nvmRules ⌝ }
     ensures contents { λ _. ⌜ Contents-follow nvmRules nvmKeeps ⌝ }
     ensures marks { λ _. ⌜ Marks-follow nvmRules ⌝ }
@@ -63,6 +70,7 @@ pub fn memory_outlasts_cuts() -> u8
 
 /// The same of a disk.
 pub fn disk_outlasts_cuts() -> u8
+    ensures begun { λ _. ⌜ Runs-have-begun diskRules ⌝ }
     ensures untouched { λ _. ⌜ Untouched-outlasts diskRules ⌝ }
     ensures contents { λ _. ⌜ Contents-follow diskRules diskKeeps ⌝ }
     ensures marks { λ _. ⌜ Marks-follow diskRules ⌝ }
@@ -75,11 +83,13 @@ pub fn disk_outlasts_cuts() -> u8
     0
 }
 
-/// Which lists of acts are phases.
+/// Which lists of acts are phases, and what they spare.
 pub fn rows_are_phases() -> u8
     ensures stores { λ _. ⌜ Stores-are-a-phase ⌝ }
     ensures writes { λ _. ⌜ Writes-are-a-phase ⌝ }
     ensures seals { λ _. ⌜ Sealing-is-a-phase ⌝ }
+    ensures unstored { λ _. ⌜ Unstored-is-spared ⌝ }
+    ensures unwritten { λ _. ⌜ Unwritten-is-spared ⌝ }
 {
     0
 }
@@ -89,6 +99,7 @@ pub fn pair_outlasts_cuts() -> u8
     ensures runs { λ _. ⌜ Runs-part ⌝ }
     ensures cuts { λ _. ⌜ Cuts-part ⌝ }
     ensures stops { λ _. ⌜ Only-darkness-stops-both ⌝ }
+    ensures untouched { λ _. ⌜ Untouched-outlasts-both ⌝ }
     ensures words { λ _. ⌜ Nvm-phase-settles ⌝ }
     ensures wordsCut { λ _. ⌜ Nvm-phase-blends ⌝ }
     ensures sectors { λ _. ⌜ Disk-phase-settles ⌝ }

@@ -4,6 +4,7 @@ use Rattle.device.specs.Sectors.{SectorMark, diskRules}
 use Rattle.crash.specs.Keeping.{diskKeeps}
 use Rattle.crash.proofs.Tame.{disk-is-tame}
 use Rattle.crash.proofs.Steps.{sync-settles, write-shows, settling-is-done, nothing-else-moves, refusals-move-nothing, size-stays, dark-stays-dark, restart-settles}
+use Rattle.crash.proofs.Follow.{untouched-stays, size-stays-in-runs, dark-runs-nothing}
 use Rattle.crash.proofs.disk_is_narrow.Needs as need
 
 pub returns : need.returns
@@ -15,5 +16,8 @@ returns c = record {
   refuses = refusals-move-nothing diskRules;
   sizes = size-stays diskRules;
   darkness = dark-stays-dark diskRules;
+  untouched = untouched-stays diskRules;
+  runSizes = size-stays-in-runs diskRules;
+  darkRuns = dark-runs-nothing diskRules;
   restarts = restart-settles SectorMark (List ℕ);
 }
