@@ -12,7 +12,7 @@ use Rattle.ringlaws.specs.Layout.{Contents, unitAt, placeAt, after, before, us
 use Rattle.ringlaws.specs.TxnInfo.{Transaction, numbersOf, recordUnits, infoUnit, countLimit, taken, countIn, numbersIn, distinct, allBelow, goodInfo}
 use Rattle.ringlaws.specs.Spells.{unitsOf, written, Whole, Fair, AllFair, SpellsBetween}
 use Rattle.ringlaws.specs.Sound.{Verdict, spelled, badAt, infoBefore, settingsAt, stepped, transactionBefore, steppingBack, stepBack}
-use Rattle.ringlaws.specs.Laws.{Sound-exactly-if-spelled, Only-one-list, Every-word-comes-back}
+use Rattle.ringlaws.specs.Laws.{Sound-exactly-if-spelled, Only-one-list, Every-word-comes-back, IsTheList, The-list-is-the-one}
 use Rattle.ringlaws.proofs.Places.{before-after, after-after, after-below, tail-is, used-below}
 use Rattle.ringlaws.proofs.Infos.{Good, good, good-is-info, numbers-long, info-good, info-count, info-numbers}
 use Rattle.ringlaws.proofs.Units.{unit-long, unit-word, units-long, units-at, units-append, units-push, split-same, units-of-long, written-push, fair-append, fair-front, last-of, settings-numbers, settings-long, settings-whole, settings-units, settings-are}
@@ -229,3 +229,13 @@ every-word-comes-back N B c head tail ts s =
       sym (ap length (s .places)) ∙ units-long N c head n,
       λ k j lt less. sym (unit-word c (after N head k + 1) j less) ∙ ap (λ u. getD u j 0) (sym (units-at N c head n k lt) ∙ ap (λ us. getD us k []) (s .places)),
     )
+
+pub the-list-is-the-one : The-list-is-the-one
+the-list-is-the-one N B c head tail h t ts e =
+    let s = sound-exactly-if-spelled N B c head tail h t ts .0 e in
+    record {
+      steps = e;
+      spells = s;
+      only = λ us r. only-one-list N B c head tail h t us ts r s;
+      words = every-word-comes-back N B c head tail ts s .1;
+    }

@@ -8,13 +8,13 @@ use lib.ListN.{length, length-append}
 use Rattle.std.proofs.shelf.Tests.{cond-true, cond-false}
 use Rattle.ringlaws.specs.Layout.{Contents, placeAt, after, before, usedBetween, unitsFrom}
 use Rattle.ringlaws.specs.TxnInfo.{Transaction, taken, countIn, goodInfo}
-use Rattle.ringlaws.specs.Spells.{unitsOf, written, Fair, AllFair}
+use Rattle.ringlaws.specs.Spells.{unitsOf, written, Fair, AllFair, SpellsBetween}
 use Rattle.ringlaws.specs.Sound.{Verdict, spelled, badAt, infoBefore, stepped, transactionBefore, steppingBack, stepBack}
 use Rattle.ringlaws.specs.Laws.{FirstBad, A-bad-place-is-the-first}
 use Rattle.ringlaws.proofs.Places.{after-after, after-below, before-below, tail-is, used-below}
 use Rattle.ringlaws.proofs.Infos.{Good, good}
 use Rattle.ringlaws.proofs.Units.{units-append, units-long}
-use Rattle.ringlaws.proofs.Back.{Found, found}
+use Rattle.ringlaws.proofs.Back.{Found, found, sound-exactly-if-spelled}
 
 module _ (N B : ℕ) (c : Contents) (head tail : ℕ) (inside : head < N) (within : tail < N) where
   -- the places behind `left` of them hold these transactions
@@ -45,13 +45,19 @@ module _ (N B : ℕ) (c : Contents) (head tail : ℕ) (inside : head < N) (withi
             ∙ ap (λ x. unitsOf t ++ x) (b .units);
       }
 
-  one-bad : (place left p : ℕ) (newer : List Transaction) → 0 < left → left < N → place ≡ after N head left → Behind left newer → (rest : Verdict)
+  no-list : (p : ℕ) → stepBack N B c head tail ≡ badAt p → (ts : List Transaction) → SpellsBetween N B c head tail ts → ⊥
+  no-list p e ts s =
+      let g = sound-exactly-if-spelled N B c head tail inside within ts .1 s in
+      let z : _≡_ {A = ℕ} 0 1 = cc in
+      omega arith
+
+  one-bad : (place left p : ℕ) (newer : List Transaction) → ((ts : List Transaction) → SpellsBetween N B c head tail ts → ⊥) → 0 < left → left < N → place ≡ after N head left → Behind left newer → (rest : Verdict)
       → (b : Bool) → goodInfo B left (infoBefore N c place) ≡ b → cond b rest (badAt (before N place 1)) ≡ badAt p
       → (stepped N c place ≡ after N head (left - taken (countIn (infoBefore N c place))) → Behind (left - taken (countIn (infoBefore N c place))) (transactionBefore N c place ∷ newer)
       → rest ≡ badAt p → FirstBad N B c head tail p)
       → FirstBad N B c head tail p
-  one-bad place left p newer lt l q b rest true g e ih = let f = found N B c head inside place left l q g in ih (f .first) (behind-more place left newer f b) e
-  one-bad place left p newer lt l q b rest false g e ih =
+  one-bad place left p newer none lt l q b rest true g e ih = let f = found N B c head inside place left l q g in ih (f .first) (behind-more place left newer f b) e
+  one-bad place left p newer none lt l q b rest false g e ih =
       let same : before N place 1 ≡ p = cc in
       record {
         left = left;
@@ -62,23 +68,24 @@ module _ (N B : ℕ) (c : Contents) (head tail : ℕ) (inside : head < N) (withi
         behind = b .units;
         place = sym same ∙ ap (λ x. before N x 1) q;
         bad = ap (λ x. goodInfo B left (placeAt c x)) (sym same) ∙ g;
+        none = none;
       }
 
-  first-bad : (steps place left p : ℕ) (newer : List Transaction) → left ≤ steps → left < N → place ≡ after N head left → Behind left newer
+  first-bad : (steps place left p : ℕ) (newer : List Transaction) → ((ts : List Transaction) → SpellsBetween N B c head tail ts → ⊥) → left ≤ steps → left < N → place ≡ after N head left → Behind left newer
       → steppingBack N B c steps place left newer ≡ badAt p → FirstBad N B c head tail p
   unfolding steppingBack
-  first-bad steps place zero p newer s l q b e = let z : _≡_ {A = ℕ} 0 1 = cc in absurd (omega arith)
-  first-bad zero place (suc left) p newer s l q b e = absurd (omega arith)
-  first-bad (suc steps) place (suc left) p newer s l q b e =
-      one-bad place (suc left) p newer (omega arith) l q b _ (goodInfo B (suc left) (infoBefore N c place)) refl e
-      (λ f h r. first-bad steps (stepped N c place) (suc left - taken (countIn (infoBefore N c place))) p (transactionBefore N c place ∷ newer) (omega arith) (omega arith) f h r)
+  first-bad steps place zero p newer none s l q b e = let z : _≡_ {A = ℕ} 0 1 = cc in absurd (omega arith)
+  first-bad zero place (suc left) p newer none s l q b e = absurd (omega arith)
+  first-bad (suc steps) place (suc left) p newer none s l q b e =
+      one-bad place (suc left) p newer none (omega arith) l q b _ (goodInfo B (suc left) (infoBefore N c place)) refl e
+      (λ f h r. first-bad steps (stepped N c place) (suc left - taken (countIn (infoBefore N c place))) p (transactionBefore N c place ∷ newer) none (omega arith) (omega arith) f h r)
 
 pub a-bad-place-is-the-first : A-bad-place-is-the-first
 unfolding written unitsFrom
 a-bad-place-is-the-first N B c head tail p h t e =
     let n : ℕ = usedBetween N head tail in
     let l = used-below N head tail t in
-    let b = first-bad N B c head tail h t n tail n p [] (omega arith) l (sym (tail-is N head tail h t)) (record { all = omega arith; fair = tt; units = refl }) e in
+    let b = first-bad N B c head tail h t n tail n p [] (no-list N B c head tail h t p e) (omega arith) l (sym (tail-is N head tail h t)) (record { all = omega arith; fair = tt; units = refl }) e in
     let q = before-below N (after N head (b .left)) 1 (after-below N head (b .left) h) in
     let same = b .place in
     (omega arith, b)

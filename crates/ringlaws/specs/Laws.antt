@@ -34,7 +34,19 @@ Every-word-comes-back =
     → (length (written ts) ≡ usedBetween N head tail)
     × ((k j : ℕ) → k < usedBetween N head tail → j < 32 → c (32 * (after N head k + 1) + j) ≡ getD (getD (written ts) k []) j 0)
 
--- p is the first bad TxnInfo met: behind it lie good transactions up to the tail, and it itself is not good.
+-- the list that stepping back gives: it spells the ring, no other does, and written from the head on it gives every word back
+pub record IsTheList (N B : ℕ) (c : Contents) (head tail : ℕ) (ts : List Transaction) : Type 0 where
+  pub steps : stepBack N B c head tail ≡ spelled ts
+  pub spells : SpellsBetween N B c head tail ts
+  pub only : (us : List Transaction) → SpellsBetween N B c head tail us → us ≡ ts
+  pub words : (k j : ℕ) → k < usedBetween N head tail → j < 32 → c (32 * (after N head k + 1) + j) ≡ getD (getD (written ts) k []) j 0
+
+abbrev pub The-list-is-the-one : Type 0
+The-list-is-the-one =
+    (N B : ℕ) (c : Contents) (head tail : ℕ) → head < N → tail < N → (ts : List Transaction) → stepBack N B c head tail ≡ spelled ts → IsTheList N B c head tail ts
+
+-- p is the first bad TxnInfo met: behind it lie good transactions up to the tail, it itself is not good, and no list spells
+-- the ring
 pub record FirstBad (N B : ℕ) (c : Contents) (head tail p : ℕ) : Type 0 where
   pub left : ℕ
   pub newer : List Transaction
@@ -44,6 +56,7 @@ pub record FirstBad (N B : ℕ) (c : Contents) (head tail p : ℕ) : Type 0 wher
   pub behind : unitsFrom N c (after N head left) (length (written newer)) ≡ written newer
   pub place : p ≡ before N (after N head left) 1
   pub bad : goodInfo B left (placeAt c p) ≡ false
+  pub none : (ts : List Transaction) → SpellsBetween N B c head tail ts → ⊥
 
 abbrev pub A-bad-place-is-the-first : Type 0
 A-bad-place-is-the-first =

@@ -43,6 +43,9 @@ steppingBack N B c (suc steps) place (suc left) newer =
 abbrev pub stepBack : ℕ → ℕ → Contents → ℕ → ℕ → Verdict
 stepBack N B c head tail = steppingBack N B c (usedBetween N head tail) tail (usedBetween N head tail) []
 
--- the ring is sound
+-- the ring between head and tail is sound: stepping back ends with a list
+abbrev pub SoundBetween : ℕ → ℕ → Contents → ℕ → ℕ → Type 0
+SoundBetween N B c head tail = (ts : List Transaction) × (stepBack N B c head tail ≡ spelled ts)
+
 abbrev pub Sound : ℕ → ℕ → Contents → Type 0
-Sound N B c = (ts : List Transaction) × (stepBack N B c (headOf c) (tailOf c) ≡ spelled ts)
+Sound N B c = SoundBetween N B c (headOf c) (tailOf c)

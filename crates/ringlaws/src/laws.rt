@@ -1,5 +1,5 @@
 //! The laws of the ring: each function stands for the theorem that its contract states.
-ghost use Rattle.ringlaws.specs.Laws.{Sound-exactly-if-spelled, Only-one-list, Every-word-comes-back, A-bad-place-is-the-first, There-and-back, Newest-holds-the-latest, Newest-is-a-place, Laid-is-the-latest, Appended-spells-one-more, Only-used-places-matter, Empty-spells-nothing};
+ghost use Rattle.ringlaws.specs.Laws.{Sound-exactly-if-spelled, Only-one-list, Every-word-comes-back, The-list-is-the-one, A-bad-place-is-the-first, There-and-back, Newest-holds-the-latest, Newest-is-a-place, Laid-is-the-latest, Appended-spells-one-more, Only-used-places-matter, Empty-spells-nothing};
 ghost use Rattle.ringlaws.specs.Examples.{RingExamples};
 
 /// Stepping back gives a list exactly if that list spells the ring.
@@ -19,6 +19,13 @@ pub fn only_one_list() -> u8
 /// The list, written from the head on, gives every word of the used places back.
 pub fn every_word_comes_back() -> u8
     ensures { λ _. ⌜ Every-word-comes-back ⌝ }
+{
+    0
+}
+
+/// The list that stepping back gives spells the ring, no other does, and it gives every word back.
+pub fn the_list_is_the_one() -> u8
+    ensures { λ _. ⌜ The-list-is-the-one ⌝ }
 {
     0
 }

@@ -1,0 +1,10 @@
+use mathlib.Core.Path.{_≡_}
+use Prim.Native.Nat.{ℕ, _<_, _≤_}
+use lib.ListN.{length, getD}
+use Rattle.ring.proofs.fill.info_words.Given as given
+
+abbrev pub Inv-loop-i : given.InvT-loop-i
+Inv-loop-i l =
+    (length (l .words) ≡ 32)
+    × ((k : ℕ) → k < l .i → getD (l .words) k 0 ≡ getD (l .numbers) k 0)
+    × ((k : ℕ) → l .i ≤ k → k < 32 → getD (l .words) k 0 ≡ 0)

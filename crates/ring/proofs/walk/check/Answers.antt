@@ -1,0 +1,6 @@
+use mathlib.Core.Path.{sym, _∙_}
+use Rattle.ring.specs.Walks.{noRing}
+use Rattle.ring.proofs.walk.check.Needs as need
+
+pub returns-then-not-is-ring : need.returns-then-not-is-ring
+returns-then-not-is-ring g c = noRing (sym (c .is-ring .ensures) ∙ c .if-not-is-ring .taken)

@@ -1,0 +1,3 @@
+pub mod Sources
+pub mod Walks
+pub mod Images
