@@ -1,11 +1,9 @@
 -- A checkpoint of both devices, from its parts. Assumes nothing.
 use mathlib.Core.Path.{_≡_, refl, sym, ap, subst, _∙_}
-use mathlib.Core.Bool.{Bool, true, false, cond}
+use mathlib.Core.Bool.{true, false, cond}
 use mathlib.Core.List.{List, [], _∷_, _++_, map}
-use mathlib.Core.Logic.{_⊎_, inl, inr}
-use Prim.Native.Nat.{ℕ, zero, suc, _+_, _*_, _<_, _≤_}
+use Prim.Native.Nat.{ℕ, zero, suc, _+_, _*_, _<_}
 use native.Mathlib.Omega.{arith}
-use lib.ListN.{length}
 use Rattle.std.specs.Vec.{made}
 use Rattle.std.specs.Results.{ErrBy}
 use Rattle.std.specs.Options.{mapped}
@@ -18,18 +16,18 @@ use Rattle.device.specs.Sectors.{DiskMeaning, DiskAct, Write, Sync, diskRules, 
 use Rattle.crash.specs.Runs.{done, eachOf}
 use Rattle.crash.specs.Acts.{PerformedOn, HaltedOn, RanOn}
 use Rattle.crash.specs.Rows.{sealing}
-use Rattle.crash.specs.Pair.{Pair, both, Act, onNvm, onDisk, PerformedPair, HaltedPair, RanPair}
+use Rattle.crash.specs.Pair.{both, Act, onNvm, onDisk, PerformedPair, HaltedPair}
 use Rattle.crash.proofs.Runs.{performed-one, performed-append, stopped-one, stopped-first, stopped-second}
 use Rattle.crash.proofs.Pairs.{nvm-performed, disk-performed, nvm-ran, disk-ran}
-use Rattle.ringlaws.specs.Layout.{Contents, placeAt, tailOf, headWord}
+use Rattle.ringlaws.specs.Layout.{placeAt, tailOf, headWord}
 use Rattle.ringlaws.specs.TxnInfo.{Transaction}
-use Rattle.ringlaws.specs.Sound.{Verdict, spelled, badAt}
+use Rattle.ringlaws.specs.Sound.{spelled, badAt}
 use Rattle.ringlaws.specs.Newest.{latest, newest}
 use Rattle.ringlaws.proofs.Seek.{newest-holds-the-latest, newest-is-a-place}
 use Rattle.ringlaws.proofs.Back.{sound-exactly-if-spelled}
 use Rattle.ring.specs.Walks.{WhyRefused, noRing, handedOn, unsound}
 use Rattle.ring.proofs.Walking.{ring}
-use Rattle.std.specs.declared.option.Option.the-variants.{Some, None}
+use Rattle.std.specs.declared.option.Option.the-variants.{Some}
 use Rattle.calls.specs.Table.{table, tableBlock, isNamed, homeUnit}
 use Rattle.calls.specs.Acts.{writingHomes, checkpointActs, namedBlocks, sealingWord}
 use Rattle.checkpointing.specs.Rows.{placeIn, homeOfOne, unitFrom, rowUnits, writingBlocks, chosenBelow}

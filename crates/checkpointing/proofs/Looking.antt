@@ -1,8 +1,8 @@
 -- A record looked up: in its newest place, or at its home. Assumes nothing.
-use mathlib.Core.Path.{_≡_, refl, sym, ap, _∙_}
-use mathlib.Core.Bool.{Bool, true, false, cond}
+use mathlib.Core.Path.{_≡_, sym, ap, _∙_}
+use mathlib.Core.Bool.{true, false, cond}
 use mathlib.Core.List.{List}
-use mathlib.Core.Logic.{_⊎_, inl, inr}
+use mathlib.Core.Logic.{inl, inr}
 use Prim.Native.Nat.{ℕ, _+_, _*_, _/_, _%_, _<_, _≤_}
 use native.Mathlib.Omega.{arith}
 use lib.Dec.{leb}
@@ -16,7 +16,7 @@ use Rattle.refusal.specs.declared.reason.Refusal.{Refusal}
 use Rattle.refusal.specs.declared.reason.Refusal.the-variants.{Beyond, Dark}
 use Rattle.device.specs.Words.{NvmMeaning, loads, wordsOf}
 use Rattle.device.specs.Sectors.{DiskMeaning, sectorsOf, blockOf, readRefusal}
-use Rattle.ringlaws.specs.Layout.{Contents, unitAt, isRing, homeBlock}
+use Rattle.ringlaws.specs.Layout.{Contents, unitAt, homeBlock}
 use Rattle.ringlaws.specs.TxnInfo.{Transaction}
 use Rattle.ringlaws.specs.Newest.{newest}
 use Rattle.ringlaws.proofs.Seek.{newest-is-a-place}

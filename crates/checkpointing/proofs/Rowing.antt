@@ -2,7 +2,7 @@
 use mathlib.Core.Path.{_≡_, refl, sym, ap, _∙_}
 use mathlib.Core.Bool.{Bool, true, false, cond}
 use mathlib.Core.List.{List, [], _∷_}
-use mathlib.Core.Logic.{_≢_, _⊎_, inl, inr}
+use mathlib.Core.Logic.{_≢_, inl, inr}
 use Prim.Native.Nat.{ℕ, zero, suc, _+_, _-_, _<_, _≤_}
 use native.Mathlib.Omega.{arith}
 use native.Mathlib.Nat.{not-suc-le-zero}
@@ -15,7 +15,7 @@ use Rattle.std.specs.declared.option.Option.the-variants.{Some, None}
 use Rattle.std.proofs.shelf.Ways.{tells}
 use Rattle.std.proofs.shelf.Tests.{and-parts, leb-true, cases-eq, eq-eqb, eqb-true}
 use Rattle.ringlaws.specs.Layout.{Contents, before, usedBetween}
-use Rattle.ringlaws.specs.TxnInfo.{taken, countIn, numbersIn, goodCount, goodInfo}
+use Rattle.ringlaws.specs.TxnInfo.{taken, countIn, numbersIn, goodCount}
 use Rattle.ringlaws.specs.Sound.{infoBefore, stepped}
 use Rattle.ringlaws.specs.Newest.{orElse, indexOf, seekingBack, newest}
 use Rattle.ringlaws.proofs.Seek.{seek-end, seek-here, seek-on}
@@ -221,4 +221,4 @@ step-takes reads N B place left s st =
     let d : taken (countIn (s .info)) ≤ left = leb-true (taken (countIn (s .info))) left fits in
     let q = st .count in
     let r = st .rest in
-    (omega arith, omega arith, omega arith, omega arith)
+    (omega (arith, a, q), omega (arith, b, q), omega (arith, d, q), omega (arith, d, q, r))

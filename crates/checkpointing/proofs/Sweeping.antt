@@ -6,13 +6,13 @@ use mathlib.Core.Logic.{_⊎_, inl, inr}
 use Prim.Native.Nat.{ℕ, zero, suc, _+_, _-_, _*_, _/_, _%_, _<_, _≤_}
 use native.Mathlib.Omega.{arith}
 use lib.Dec.{eqb}
-use lib.ListN.{length, getD}
+use lib.ListN.{getD}
 use Rattle.std.specs.declared.option.Option.{Option}
 use Rattle.std.proofs.shelf.Ways.{tells}
 use Rattle.std.proofs.shelf.Tests.{cases-lt}
 use Rattle.std.proofs.shelf.Counted.{length-map-counting, getD-map-counting, fill-by-all}
 use Rattle.refusal.specs.declared.reason.Refusal.{Refusal}
-use Rattle.device.specs.Pieces.{settled, unsettled, settledValue, presentValue, MaySettle}
+use Rattle.device.specs.Pieces.{unsettled, settledValue, presentValue, MaySettle}
 use Rattle.device.specs.Devices.{Performs, Refuses}
 use Rattle.device.specs.Sectors.{Sector, waits, sectorOf, DiskMeaning, DiskAct, Write, Sync, diskRules, diskMakes, diskWord, blockOf, sectorsOf}
 use Rattle.crash.specs.Runs.{done, eachOf}
@@ -20,7 +20,7 @@ use Rattle.crash.specs.Acts.{PerformedOn, HaltedOn}
 use Rattle.crash.proofs.Runs.{performed-one, performed-append, stopped-one, stopped-first, stopped-second, loop-more, loop-stops}
 use Rattle.ringlaws.specs.Layout.{Contents, unitAt}
 use Rattle.ring.specs.Images.{contentsOf}
-use Rattle.calls.specs.Table.{homeUnit, tableBlock}
+use Rattle.calls.specs.Table.{tableBlock}
 use Rattle.checkpointing.specs.Rows.{unitFrom, rowUnits, homeOfOne, Next, writingBlocks, chosenBelow}
 use Rattle.checkpointing.proofs.Loading.{block-word, home-in-block}
 use Rattle.checkpointing.proofs.Nexts.{between-none}

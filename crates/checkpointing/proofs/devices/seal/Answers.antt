@@ -1,4 +1,3 @@
-use mathlib.Core.List.{[], _∷_}
 use Rattle.device.specs.Devices.{Performs, Refuses}
 use Rattle.device.specs.Words.{nvmRules, Fence}
 use Rattle.crash.proofs.Runs.{performed-one, stopped-one, stopped-first, stopped-second, ran-broken, ran-after}

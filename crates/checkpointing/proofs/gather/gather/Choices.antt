@@ -1,6 +1,4 @@
-use mathlib.Core.Path.{_≡_}
 use Prim.Native.Nat.{_+_, _<_}
-use lib.ListN.{length}
 use Rattle.ring.proofs.Walking.{Came}
 use Rattle.checkpointing.proofs.Rowing.{Gathered}
 use Rattle.checkpointing.proofs.gather.gather.Given as given

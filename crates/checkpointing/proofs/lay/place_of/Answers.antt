@@ -1,4 +1,4 @@
-use mathlib.Core.Path.{_≡_, refl, sym, _∙_, ap}
+use mathlib.Core.Path.{_≡_, sym, _∙_, ap}
 use native.Mathlib.Omega.{arith}
 use Rattle.checkpointing.specs.Rows.{placeIn}
 use Rattle.checkpointing.proofs.Rowing.{no-row, row-passed, row-here}

@@ -1,5 +1,4 @@
-use mathlib.Core.Path.{_≡_, ap}
-use Prim.Native.Nat.{_<_, _≤_}
+use mathlib.Core.Path.{ap}
 use native.Mathlib.Omega.{arith}
 use Rattle.std.specs.declared.result.Result.the-variants.{Ok}
 use Rattle.checkpointing.proofs.Looking.{read-open, found-below, found-open, found-unit, home-unit}

@@ -1,4 +1,4 @@
-use mathlib.Core.Path.{_≡_, refl}
+use mathlib.Core.Path.{refl}
 use mathlib.Core.Logic.{_≢_}
 use Prim.Native.Nat.{_<_}
 use lib.ListN.{length, length-set}
