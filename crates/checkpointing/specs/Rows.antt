@@ -37,7 +37,7 @@ pub record Next (numbers : List ℕ) (n from limit r : ℕ) : Type 0 where
 abbrev pub unitFrom : Contents → Option ℕ → List ℕ → List ℕ
 unitFrom c place home = valueOr (mapped (placeAt c) place) home
 
--- the units of records by the first n rows, over the homes of a disk
+-- the units of all records, by the place of each, over the homes of a disk
 abbrev pub rowUnits : Contents → (ℕ → Option ℕ) → (ℕ → List ℕ) → ℕ → List ℕ
 rowUnits c place sectors r = unitFrom c (place r) (homeUnit sectors r)
 

@@ -1,8 +1,8 @@
 //! Looking a record up, and the checkpoint, on any non-volatile memory and any disk.
-pub mod blocks;
+mod blocks;
 pub mod devices;
-pub mod gather;
-pub mod lay;
+mod gather;
+mod lay;
 pub mod loads;
-pub mod next;
+mod next;
 pub mod read;
