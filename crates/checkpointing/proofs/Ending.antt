@@ -26,7 +26,7 @@ use Rattle.ringlaws.specs.Newest.{latest, newest}
 use Rattle.ringlaws.proofs.Seek.{newest-holds-the-latest, newest-is-a-place}
 use Rattle.ringlaws.proofs.Back.{sound-exactly-if-spelled}
 use Rattle.ring.specs.Walks.{WhyRefused, noRing, handedOn, unsound}
-use Rattle.ring.proofs.Walking.{ring}
+use Rattle.ringunits.proofs.Rings.{ring}
 use Rattle.std.specs.declared.option.Option.the-variants.{Some}
 use Rattle.calls.specs.Table.{table, tableBlock, isNamed, homeUnit}
 use Rattle.calls.specs.Acts.{writingHomes, checkpointActs, namedBlocks, sealingWord}

@@ -24,7 +24,7 @@ use Rattle.ringlaws.proofs.Units.{unit-long, unit-word}
 use Rattle.ringlaws.proofs.Seek.{newest-holds-the-latest, laid-is-the-latest}
 use Rattle.ring.specs.Sources.{Agrees, RefusesWithin}
 use Rattle.ringunits.specs.Images.{contentsOf}
-use Rattle.ring.proofs.Walking.{ring}
+use Rattle.ringunits.proofs.Rings.{ring}
 use Rattle.calls.specs.Table.{homeUnit, table, tableBlock}
 use Rattle.checkpointing.specs.Rows.{unitFrom, rowUnits}
 

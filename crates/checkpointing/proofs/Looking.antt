@@ -23,7 +23,7 @@ use Rattle.ringlaws.proofs.Seek.{newest-is-a-place}
 use Rattle.ring.specs.Sources.{Agrees, RefusesWithin}
 use Rattle.ring.specs.Walks.{Finds}
 use Rattle.ringunits.specs.Images.{contentsOf}
-use Rattle.ring.proofs.Walking.{ring}
+use Rattle.ringunits.proofs.Rings.{ring}
 use Rattle.calls.specs.Table.{homeUnit, table}
 use Rattle.checkpointing.specs.Rows.{unitFrom}
 use Rattle.checkpointing.specs.Ready.{Ready}

@@ -12,11 +12,11 @@ ghost use Rattle.ring.specs.Sources.{Agrees};
 ghost use Rattle.ring.specs.Walks.{WhyRefused};
 ghost use Rattle.checkpointing.specs.Rows.{placeIn};
 use refusal::reason::Refusal;
+use ring::source::Source;
+use ring::walk::step_back;
 use ringunits::info::places_taken;
 use ringunits::places::place_before;
 use ringunits::places::used_between;
-use ring::source::Source;
-use ring::walk::step_back;
 
 /// Adds the `n` rows of the transaction that ends before a place, behind the first `count`.
 fn add_rows(

@@ -8,9 +8,9 @@ ghost use Rattle.ring.specs.Sources.{Agrees, RefusesWithin};
 ghost use Rattle.ringunits.specs.Images.{contentsOf};
 ghost use Rattle.checkpointing.specs.Rows.{placeIn, unitFrom};
 use refusal::reason::Refusal;
-use ringunits::fill::fill;
 use ring::source::Source;
 use ring::unit::load_unit;
+use ringunits::fill::fill;
 
 /// The place of a record, by the first row that has its number.
 fn place_of(numbers: &[u64; 255], slots: &[usize; 255], count: usize, number: u64) -> Option<usize>

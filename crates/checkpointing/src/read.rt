@@ -15,8 +15,8 @@ use device::disk::Disk;
 use device::nvm::Nvm;
 use refusal::reason::Refusal;
 use ring::find::find;
-use ringunits::places::home_of;
 use ring::unit::load_unit;
+use ringunits::places::home_of;
 
 /// The 32 words of a unit of a block.
 fn unit_of(block: &[u64; 512], unit: usize) -> [u64; 32]

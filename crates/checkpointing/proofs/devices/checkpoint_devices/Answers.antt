@@ -4,7 +4,7 @@ use native.Mathlib.Omega.{arith}
 use Rattle.device.specs.Words.{wordsOf}
 use Rattle.crash.specs.Pair.{PairPerforms, PairRefuses}
 use Rattle.crash.proofs.Runs.{ran-broken}
-use Rattle.ring.proofs.Walking.{ring}
+use Rattle.ringunits.proofs.Rings.{ring}
 use Rattle.checkpointing.proofs.Loading.{loads-agree}
 use Rattle.checkpointing.proofs.Ending.{no-count, gather-open, rows-below, count-is, nothing-ran, nothing-counted, homes-broken, head-broken, finished}
 use Rattle.checkpointing.proofs.devices.checkpoint_devices.Needs as need

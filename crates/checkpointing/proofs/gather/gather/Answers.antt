@@ -4,7 +4,8 @@ use native.Mathlib.Omega.{arith}
 use Rattle.std.proofs.shelf.Results.{err-from-errBy}
 use Rattle.ringlaws.specs.Sound.{steppingBack}
 use Rattle.ringlaws.proofs.Places.{used-below}
-use Rattle.ring.proofs.Walking.{ring, stays, falls, came-on, came-short}
+use Rattle.ringunits.proofs.Rings.{ring}
+use Rattle.ring.proofs.Walking.{stays, falls, came-on, came-short}
 use Rattle.checkpointing.proofs.Rowing.{gathered-none, gathered-on, gathered-all, step-takes}
 use Rattle.checkpointing.proofs.gather.gather.Needs as need
 
