@@ -1,0 +1,4 @@
+pub mod Performing
+pub mod Stands
+pub mod Cut
+pub mod Main
