@@ -26,11 +26,12 @@ use Rattle.ringlaws.specs.Newest.{lay, laid}
 use Rattle.calls.specs.declared.state.State.{State}
 use Rattle.calls.specs.declared.state.State.the-variants.{Unmounted, Idle, Open}
 use Rattle.calls.specs.declared.call.Call.{Call}
-use Rattle.calls.specs.declared.call.Call.the-variants.{Format}
+use Rattle.calls.specs.declared.call.Call.the-variants.{Format, Mount, Read}
 use Rattle.calls.specs.declared.answer.Answer.{Answer}
-use Rattle.calls.specs.declared.answer.Answer.the-variants.{Refused, Done}
+use Rattle.calls.specs.declared.answer.Answer.the-variants.{Refused, Done, Blocks}
 use Rattle.calls.specs.Table.{table, zeroUnit}
 use Rattle.calls.specs.Acts.{formatActs}
+use Rattle.calls.specs.Judge.{judge}
 use Rattle.calls.specs.Plans.{Machine, Kind, Plan, placesOf, blocksOf, tableOf, readUnit, fitSizes, refusing, planOf}
 use Rattle.calls.specs.Steps.{Step, was-dark, went, went-dark, Went, MachineRestarted}
 use Rattle.calllaws.specs.Holds.{Ready, Holds, Keeps}
@@ -43,7 +44,7 @@ use Rattle.order.specs.Order.{EndsThere}
 use Rattle.book.specs.Book.{Book, blank, next, restarted, isCommit, bookRead, readIn}
 use Rattle.book.specs.Runs.{Event, called, restart, Run, start, asked, returned, isFormat, isKept, sameBelow}
 use Rattle.book.specs.Commits.{Fate, cutOff, commitsAfter, Tally, noTally, tallyCall, tallyEvent, tallyFrom, tally, Kept, none, WholeAndInOrder}
-use Rattle.book.specs.Promise.{Lawful, Right, Promised, Every-run-keeps-the-book}
+use Rattle.book.specs.Promise.{Lawful, ByState, Right, Promised, Every-run-keeps-the-book}
 use Rattle.order.proofs.Own.{own, blocks-is, ring-is}
 use Rattle.order.proofs.Performed.{stays-lit}
 use Rattle.book.proofs.Goods.{Readable, EachReadable, Good, good-none, lay-readable, never-foreign}
@@ -128,7 +129,7 @@ module _ {R : Type 0} (kind : Kind R) (lawful : Lawful kind) (N B : ℕ) where
       subst (λ (x : Book). Owes kind N B m x t call n a) (sym (v .book))
       (subst (λ (y : Tally). Owes kind N B m (live (v .units) (m .state) (m .list)) y call n a) (sym (v .tally))
       (died kind lawful N B (m .devices) (v .ring) (v .units) (v .keeps) (v .lit) (v .readable)
-      (m .list) (v .cs) (v .ly) (v .good) (v .commits) commits-are-atomic checkpoints-keep-the-table mounts-keep-the-table (m .state) call f a n w))
+      (m .list) (v .cs) (v .ly) (v .good) (v .commits) commits-are-atomic checkpoints-keep-the-table mounts-keep-the-table (m .state) call f (v .lying) a n w))
   step m n b t call a f (gone v) (was-dark w) =
       subst (Owes kind N B m b t call n) (sym (w .says)) (
         inl (v .book, refl),
@@ -254,9 +255,30 @@ module _ {R : Type 0} (kind : Kind R) (lawful : Lawful kind) (N B : ℕ) where
       if-dark true s e = let z : _≡_ {A = ℕ} 0 1 = cc in omega arith
       if-dark false s e = by-state s e
 
+  -- an answer to a read that is right by the book is the book's
+  right-read : (places blocks : ℕ) (b : Book) (ly : List Transaction) (r : ℕ) (a : Answer R) → Right kind places blocks b ly (Read r) a → a ≡ bookRead kind blocks b r
+  right-read places blocks b ly r a (inl p) = p .1 ∙ sym (cond-true (b .dark) (Refused Dark) (readIn kind blocks b (b .state) r) (p .0))
+  right-read places blocks b ly r a (inr (inl p)) = by-state (b .state) refl (p .1)
+    where
+      by-state : (s : State) → b .state ≡ s → ByState kind places blocks b ly (judge {R = R} s (Read r)) (Read r) a → a ≡ bookRead kind blocks b r
+      by-state Unmounted e x = x ∙ sym (cond-false (b .dark) (Refused Dark) (readIn kind blocks b (b .state) r) (p .0) ∙ ap (λ (s : State). readIn kind blocks b s r) e)
+      by-state Idle e x = x
+      by-state Open e x = x
+  right-read places blocks b ly r a (inr (inr p)) = absurd (both-ways false refl (p .2))
+
+  -- an answer to a mount that is right by an unmounted book accepts it or is 5
+  right-mount : (places blocks : ℕ) (b : Book) (ly : List Transaction) (a : Answer R) → (b .dark ≡ false → b .state ≡ Unmounted) → Right kind places blocks b ly Mount a
+      → ((k : ℕ) × (a ≡ Blocks k)) ⊎ (a ≡ Refused Dark)
+  right-mount places blocks b ly a h (inl p) = inr (p .1)
+  right-mount places blocks b ly a h (inr (inl p)) = inl (subst (λ (s : State). ByState kind places blocks b ly (judge {R = R} s Mount) Mount a) (h (p .0)) (p .1))
+  right-mount places blocks b ly a h (inr (inr p)) = inr (p .3)
+
   promised : (es : List (Event R)) (m : Machine) (b : Book) → Follows kind N B m b (tally kind es) → Promised kind es m b
   promised es m b (lives v) = record {
     answers = λ call a n f s. step m n b (tally kind es) call a f (lives v) s .0;
+    reads = λ r a n s. right-read (placesOf m) (blocksOf m) b (tally kind es .lying) r a (step m n b (tally kind es) (Read r) a refl (lives v) s .0);
+    mounts = λ e a n s.
+        right-mount (placesOf m) (blocksOf m) b (tally kind es .lying) a (λ _. ap (λ (x : Book). x .state) (v .book) ∙ e) (step m n b (tally kind es) Mount a refl (lives v) s .0);
     readable = readable-reads (blocksOf m) b
         (subst (λ (x : Book). (r : ℕ) → Readable kind (lay (x .list) (x .units) r)) (sym (v .book)) (lay-readable kind lawful (m .list) (v .units) (v .good .readable) (v .readable)));
     commits =
@@ -266,6 +288,9 @@ module _ {R : Type 0} (kind : Kind R) (lawful : Lawful kind) (N B : ℕ) where
   }
   promised es m b (gone v) = record {
     answers = λ call a n f s. step m n b (tally kind es) call a f (gone v) s .0;
+    reads = λ r a n s. right-read (placesOf m) (blocksOf m) b (tally kind es .lying) r a (step m n b (tally kind es) (Read r) a refl (gone v) s .0);
+    mounts = λ e a n s.
+        right-mount (placesOf m) (blocksOf m) b (tally kind es .lying) a (λ d. absurd (both-ways (b .dark) d (v .book))) (step m n b (tally kind es) Mount a refl (gone v) s .0);
     readable = readable-reads (blocksOf m) b (lay-readable kind lawful (b .list) (b .units) (v .good) (v .readable));
     commits = subst (λ (n : ℕ). WholeAndInOrder n (tally kind es .commits) (b .units)) (sym (v .blocks)) (v .without);
   }

@@ -105,10 +105,10 @@ lay-none : (units : ℕ → List ℕ) → lay [] units ≡ units
 unfolding settingOf
 lay-none units = refl
 
-idle-mounted : Idle ≡ Unmounted → ⊥
+pub idle-mounted : Idle ≡ Unmounted → ⊥
 idle-mounted e = let z : _≡_ {A = ℕ} 0 1 = cc in omega arith
 
-open-mounted : Open ≡ Unmounted → ⊥
+pub open-mounted : Open ≡ Unmounted → ⊥
 open-mounted e = let z : _≡_ {A = ℕ} 0 1 = cc in omega arith
 
 module _ {R : Type 0} (kind : Kind R) (lawful : Lawful kind) (N B : ℕ) where
@@ -285,7 +285,7 @@ module _ {R : Type 0} (kind : Kind R) (lawful : Lawful kind) (N B : ℕ) where
       used-here : (s ≡ Unmounted → ⊥) → used (ownPlaces d) (ownWords d) ≡ placesTaken ly
       used-here mounted = used-is (ownPlaces d) (ownBlocks d) (ownWords d) ts (o .holds .spells) ∙ ap placesTaken (lying mounted)
 
-      full-is : (s ≡ Unmounted → ⊥) → (t : Transaction) → isFull (ownPlaces d) (ownWords d) t ≡ noRoom (ownPlaces d) ly t
+      pub full-is : (s ≡ Unmounted → ⊥) → (t : Transaction) → isFull (ownPlaces d) (ownWords d) t ≡ noRoom (ownPlaces d) ly t
       full-is mounted [] = refl
       full-is mounted (x ∷ t) =
           let e = used-here mounted in

@@ -19,8 +19,8 @@ use Rattle.calls.specs.declared.answer.Answer.the-variants.{Refused, Done, Used
 use Rattle.calls.specs.Table.{zeroUnit}
 use Rattle.calls.specs.Plans.{Kind, put, readUnit}
 
--- The units by record number, the settings of the open transaction, the state, whether power is gone (dark), and whether a
--- commit was the call that it went in (cut).
+-- The units by record number, the settings of the open transaction, the state, whether a call has answered 5 since the start or
+-- the last restart (dark), and whether the first that did was a commit (cut).
 pub record Book : Type 0 where
   pub units : ℕ → List ℕ
   pub list : Transaction
@@ -28,7 +28,7 @@ pub record Book : Type 0 where
   pub dark : Bool
   pub cut : Bool
 
--- an accepted format gives zero units, an empty list, and the state unmounted
+-- an accepted format gives zero units, of which reads reach the first 16 × B, an empty list, and the state unmounted
 abbrev pub blank : Book
 blank = record { units = λ r. zeroUnit; list = []; state = Unmounted; dark = false; cut = false }
 
@@ -70,7 +70,7 @@ isCommit Close = false
 abbrev pub darkened : {R : Type 0} → Book → Call R → Book
 darkened b call = cond (b .dark) b (record { units = b .units; list = b .list; state = b .state; dark = true; cut = isCommit call })
 
--- any other refusal changes nothing
+-- what a refusal makes of the book: any but 5 changes nothing
 abbrev pub refused : {R : Type 0} → Book → Call R → Refusal → Book
 refused b call e = cond (eqb (numberOf e) 5) (darkened b call) b
 
@@ -89,12 +89,13 @@ abbrev pub restarted : Book → Bool → Book
 restarted b keep =
     record { units = cond (b .cut && keep) (lay (b .list) (b .units)) (b .units); list = []; state = Unmounted; dark = false; cut = false }
 
--- What a read of record r answers on a disk of B blocks: 5 if dark, 21 if unmounted, 31 from 16 × B on, else by the list's unit,
--- failing that by the book's own.
+-- what a read of record r answers in a state, on a disk of B blocks: 21 if unmounted, 31 from 16 × B on, else by the list's unit,
+-- failing that by the book's own
 abbrev pub readIn : {R : Type 0} → Kind R → ℕ → Book → State → ℕ → Answer R
 readIn kind B b Unmounted r = Refused NotMounted
 readIn kind B b Idle r = cond (ltb r (recordsOf B)) (readUnit kind (lay (b .list) (b .units) r)) (Refused NoSuchRecord)
 readIn kind B b Open r = cond (ltb r (recordsOf B)) (readUnit kind (lay (b .list) (b .units) r)) (Refused NoSuchRecord)
 
+-- the book's read: 5 if it is dark, else by its state
 abbrev pub bookRead : {R : Type 0} → Kind R → ℕ → Book → ℕ → Answer R
 bookRead kind B b r = cond (b .dark) (Refused Dark) (readIn kind B b (b .state) r)

@@ -49,11 +49,13 @@ settingsAfter kind t Abandon = []
 settingsAfter kind t Checkpoint = t
 settingsAfter kind t Close = t
 
--- How far a run has come: the settings of its open transaction, whether it has met a 5 since the last restart, its commits so
--- far, each with its settings, and of these the accepted ones that lie in the ring since it was last emptied. The newest is last.
+-- a commit was accepted, or cut by power
 pub data Fate : Type 0 where
   done cutOff : Fate
 
+-- How far a run has come: the settings of its open transaction, whether it has met a 5 since the last restart, and its commits so
+-- far, each with its settings; and the accepted commits of a mounted store that lie in the ring since it was last emptied, but for
+-- empty ones. The newest is last.
 pub record Tally : Type 0 where
   pub running : Transaction
   pub dark : Bool
@@ -81,9 +83,12 @@ lyingAfter t Abandon = t .lying
 lyingAfter t Checkpoint = []
 lyingAfter t Close = []
 
+-- a commit joins the commits, with its fate
 abbrev pub commitsAfter : {R : Type 0} → Fate → Tally → Call R → List (Fate × Transaction)
 commitsAfter fate t call = cond (isCommit call) (t .commits ++ (fate, t .running) ∷ []) (t .commits)
 
+-- an accepted call counts as what it does; the first 5 since the last restart makes the tally dark and cuts a commit that answers
+-- it; other refusals count for nothing
 abbrev pub tallyCall : {R : Type 0} → Kind R → Tally → Call R → Answer R → Tally
 tallyCall kind t call a =
     cond (isAccepted a)
@@ -92,6 +97,7 @@ tallyCall kind t call a =
     (record { running = t .running; dark = true; commits = commitsAfter cutOff t call; lying = t .lying })
     t)
 
+-- a restart ends the open transaction and the darkness; a mount empties the ring before the next commit can look at it
 abbrev pub tallyEvent : {R : Type 0} → Kind R → Tally → Event R → Tally
 tallyEvent kind t (called call a) = tallyCall kind t call a
 tallyEvent kind t restart = record { running = []; dark = false; commits = t .commits; lying = t .lying }

@@ -1,6 +1,6 @@
 -- What is promised of every run of a store, from an accepted format on. Assumes nothing.
 use mathlib.Core.Path.{_≡_}
-use mathlib.Core.Bool.{Bool, true, false, cond, _&&_}
+use mathlib.Core.Bool.{Bool, true, false, cond, not, _&&_}
 use mathlib.Core.List.{List, [], _∷_, _++_}
 use mathlib.Core.Logic.{_⊎_}
 use Prim.Native.Nat.{ℕ, _+_, _-_}
@@ -11,6 +11,7 @@ use Rattle.std.specs.declared.option.Option.the-variants.{Some, None}
 use Rattle.refusal.specs.declared.reason.Refusal.{Refusal}
 use Rattle.refusal.specs.declared.reason.Refusal.the-variants.{Dark, RingFull, ForeignUnit}
 use Rattle.ringlaws.specs.TxnInfo.{Transaction}
+use Rattle.calls.specs.declared.state.State.the-variants.{Unmounted}
 use Rattle.calls.specs.declared.call.Call.{Call}
 use Rattle.calls.specs.declared.call.Call.the-variants.{Format, Mount, Begin, Set, Clear, Read, Commit, Abandon, Checkpoint, Close}
 use Rattle.calls.specs.declared.answer.Answer.{Answer}
@@ -30,19 +31,6 @@ pub record Lawful {R : Type 0} (kind : Kind R) : Type 0 where
   pub nonzero : (x : R) → kind .unit x ≡ replicate 32 0 → ⊥
   pub back : (x : R) → kind .reads (kind .unit x) ≡ Some x
   pub only : (u : List ℕ) (x : R) → kind .reads u ≡ Some x → u ≡ kind .unit x
-
--- Calls that make device acts: power may fail at one of them.
-abbrev pub makesActs : {R : Type 0} → Call R → Bool
-makesActs Format = true
-makesActs Mount = true
-makesActs Begin = false
-makesActs (Set r x) = false
-makesActs (Clear r) = false
-makesActs (Read r) = false
-makesActs Commit = true
-makesActs Abandon = false
-makesActs Checkpoint = true
-makesActs Close = true
 
 -- a refusal, or done
 abbrev pub doneUnless : {R : Type 0} → Option Refusal → Answer R
@@ -71,24 +59,44 @@ abbrev pub ByState : {R : Type 0} → Kind R → ℕ → ℕ → Book → List T
 ByState kind N B b lying (Some e) call a = a ≡ Refused e
 ByState kind N B b lying None call a = Expected kind N B b lying call a
 
--- The answer is right by the book: 5 if the book is dark; else the state's refusal or what the book expects, or 5 if power fails
--- at an act of the call.
+-- Whether a call that the state lets through makes device acts: format and mount always; a commit if it has settings and there is
+-- room for them; a checkpoint and a close if transactions lie in the ring; the others never.
+abbrev pub makesActs : {R : Type 0} → ℕ → Book → List Transaction → Call R → Bool
+makesActs N b lying Format = true
+makesActs N b lying Mount = true
+makesActs N b lying Begin = false
+makesActs N b lying (Set r x) = false
+makesActs N b lying (Clear r) = false
+makesActs N b lying (Read r) = false
+makesActs N b lying Commit = ltb 0 (length (b .list)) && not (noRoom N lying (b .list))
+makesActs N b lying Abandon = false
+makesActs N b lying Checkpoint = ltb 0 (length lying)
+makesActs N b lying Close = ltb 0 (length lying)
+
+-- The answer is right by the book: 5 if the book is dark; else the state's refusal or what the book expects; or 5 because power
+-- failed at an act of the call, which the state lets through and which makes acts. No other call answers 5.
 abbrev pub Right : {R : Type 0} → Kind R → ℕ → ℕ → Book → List Transaction → Call R → Answer R → Type 0
 Right kind N B b lying call a =
     ((b .dark ≡ true) × (a ≡ Refused Dark))
     ⊎ ((b .dark ≡ false) × ByState kind N B b lying (judge (b .state) call) call a)
-    ⊎ ((b .dark ≡ false) × (makesActs call ≡ true) × (a ≡ Refused Dark))
+    ⊎ ((b .dark ≡ false) × (judge (b .state) call ≡ None) × (makesActs N b lying call ≡ true) × (a ≡ Refused Dark))
 
--- The promise after a run with these events: every next call, whatever it is and however power fails, is answered right by the
--- book; no read of the book meets a unit that is not of the kind; and the book's units are the commits since the format, whole
--- and in order, of which only cut ones may be missing.
+-- The promise after a run with these events.
 pub record Promised {R : Type 0} (kind : Kind R) (es : List (Event R)) (m : Machine) (b : Book) : Type 0 where
+  -- every next call, whatever it is and however power fails, is answered right by the book
   pub answers : (call : Call R) (a : Answer R) (n : Machine) → isFormat call ≡ false → Step kind m call a n
       → Right kind (placesOf m) (blocksOf m) b (tally kind es .lying) call a
+  -- every read answers exactly as the book does
+  pub reads : (r : ℕ) (a : Answer R) (n : Machine) → Step kind m (Read r) a n → a ≡ bookRead kind (blocksOf m) b r
+  -- no read of the book meets a unit that is not of the kind
   pub readable : (r : ℕ) → bookRead kind (blocksOf m) b r ≡ Refused ForeignUnit → ⊥
+  -- a mount of an unmounted store is accepted or answers 5
+  pub mounts : m .state ≡ Unmounted → (a : Answer R) (n : Machine) → Step kind m Mount a n → ((k : ℕ) × (a ≡ Blocks k)) ⊎ (a ≡ Refused Dark)
+  -- the book's units are the commits since the format, whole and in order, of which only cut ones may be missing
   pub commits : WholeAndInOrder (blocksOf m) (tally kind es .commits) (b .units)
 
--- An accepted format, on devices with any contents; then any list of calls and restarts.
+-- An accepted format, on devices with any contents (beyond their sizes there is nothing to settle, as every device promises); then
+-- any list of calls and restarts.
 abbrev pub Every-run-keeps-the-book : {R : Type 0} → Kind R → Type 0
 Every-run-keeps-the-book {R} kind =
     (m₀ m₁ : Machine) → EndsThere m₀ → Step kind m₀ Format Done m₁

@@ -18,7 +18,7 @@ pub data Event (R : Type 0) : Type 0 where
   called : Call R → Answer R → Event R
   restart : Event R
 
--- the calls that may follow a format: all but a further format
+-- whether a call is a format; all other calls may follow an accepted format in a run
 abbrev pub isFormat : {R : Type 0} → Call R → Bool
 isFormat Format = true
 isFormat Mount = false

@@ -30,8 +30,8 @@ headerWords N B = N ∷ B ∷ replicate 29 0
 abbrev pub heading : ℕ → ℕ → List Act
 heading N B = map onNvm (storing 1 (headerWords N B) ++ (flushing 0 4 ++ Fence ∷ []))
 
--- Format: settle everything (flush all lines, fence, sync); the ground mark goes first and comes last, so that a cut after its
--- first fence leaves no store or the finished one.
+-- Format: settle everything (flush all lines, fence, sync), whatever was there; take the ground mark away; zero the blocks; write
+-- the header; set the ground mark. As long as it is away, a mount refuses what a cut format has left.
 abbrev pub formatActs : ℕ → ℕ → List Act
 formatActs N B =
     settlingBoth (N + 1) ++ (sealingWord groundWord 0 ++ (zeroing B ++ (heading N B ++ sealingWord groundWord groundMark)))
@@ -55,7 +55,7 @@ commitActs N c (s ∷ t) =
 abbrev pub writingHomes : ℕ → List Transaction → (ℕ → List ℕ) → List DiskAct
 writingHomes B ts sectors = eachOf (λ b. cond (isNamed ts b) (Write b (tableBlock (table ts sectors) b) ∷ []) []) B
 
--- how many of the blocks below B are so
+-- how many of the blocks below B are home to a named record
 unfoldable pub namedBlocks : ℕ → List Transaction → ℕ
 namedBlocks zero ts = 0
 namedBlocks (suc b) ts = namedBlocks b ts + cond (isNamed ts b) 1 0

@@ -28,13 +28,14 @@ use Rattle.calls.specs.Table.{ringOf, table, zeroUnit}
 use Rattle.calls.specs.Acts.{formatActs, commitActs, checkpointActs, namedBlocks}
 use Rattle.calls.specs.Judge.{judge}
 
--- A store as the definitions see it, a machine: its two devices, its state, and the settings of its open transaction in the order in which they were first set
+-- A store as the definitions see it, a machine: its two devices, its state, and the settings of its open transaction in the
+-- order in which they were first set.
 pub record Machine : Type 0 where
   pub devices : Pair
   pub state : State
   pub list : Transaction
 
--- N and B, by the sizes of the devices; their contents
+-- N and B, by the sizes of the devices; their present contents
 abbrev pub placesOf : Machine → ℕ
 placesOf m = m .devices .nvm .size - 1
 
@@ -77,11 +78,12 @@ fitSizes units blocks = (ltb leastPlaces units && leb units (mostPlaces + 1)) &&
 abbrev pub fitHeader : ℕ → ℕ → Contents → Bool
 fitHeader N B c = (eqb (c placesWord) N && eqb (c blocksWord) B) && (ltb (headOf c) N && ltb (tailOf c) N)
 
--- why the contents are not mounted, in this order: no ground mark, a wrong header, an unsound ring
+-- an unsound ring is refused with the place of the first bad TxnInfo met
 abbrev pub damage : Verdict → Option Refusal
 damage (spelled ts) = None
 damage (badAt place) = Some (UnsoundRing place)
 
+-- why the contents are not mounted, in this order: no ground mark, a wrong header, an unsound ring
 abbrev pub mountRefusal : ℕ → ℕ → Contents → Option Refusal
 mountRefusal N B c =
     cond (eqb (c groundWord) groundMark)
@@ -97,11 +99,11 @@ put (s ∷ t) r u = cond (eqb r (s .number)) (record { number = r; unit = u } �
 abbrev pub mayPut : Transaction → ℕ → Bool
 mayPut t r = member r (numbersOf t) || ltb (length t) countLimit
 
--- what is refused of setting record r in a transaction on a disk of B blocks
+-- why record r is not set in a transaction on a disk of B blocks, in this order: no such record, 30 others are set already
 abbrev pub setRefusal : ℕ → Transaction → ℕ → Option Refusal
 setRefusal B t r = cond (ltb r (recordsOf B)) (cond (mayPut t r) None (Some TooManyRecords)) (Some NoSuchRecord)
 
--- there is no room in a ring of N places for a transaction: one place always stays free
+-- there is no room in a ring of N places for a transaction: one place always stays free; an empty transaction needs no room
 abbrev pub isFull : ℕ → Contents → Transaction → Bool
 isFull N c [] = false
 isFull N c (s ∷ t) = ltb (N - 1) (used N c + taken (length (s ∷ t)))
@@ -111,7 +113,7 @@ abbrev pub added : Transaction → ℕ
 added [] = 0
 added (s ∷ t) = taken (length (s ∷ t))
 
--- what a read answers, by the record's unit
+-- what a read answers, by the record's unit: absent if it is zero, else the record that it reads as, if it does
 abbrev pub readBy : {R : Type 0} → Option R → Answer R
 readBy None = Refused ForeignUnit
 readBy (Some x) = Found x

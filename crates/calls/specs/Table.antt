@@ -15,7 +15,7 @@ use Rattle.ringlaws.specs.Newest.{laid}
 unfoldable pub homeUnit : (ℕ → List ℕ) → ℕ → List ℕ
 homeUnit sectors r = map (λ i. diskWord sectors (512 * homeBlock r + homeWord r + i)) (counting 0 32)
 
--- the transactions that a ring of N places spells, the oldest first; a sound ring spells one list, an unsound one none
+-- the transactions that a ring of N places spells, the oldest first; an unsound ring, which no mount accepts, counts as empty
 abbrev pub transactionsOf : Verdict → List Transaction
 transactionsOf (spelled ts) = ts
 transactionsOf (badAt place) = []
@@ -23,7 +23,7 @@ transactionsOf (badAt place) = []
 abbrev pub ringOf : ℕ → ℕ → Contents → List Transaction
 ringOf N B words = transactionsOf (stepBack N B words (headOf words) (tailOf words))
 
--- The table: the disk's contents with the ring's transactions laid over it, the oldest first. Record r is this unit.
+-- The table: the disk's present contents with the ring's transactions laid over it, the oldest first. Record r is this unit.
 abbrev pub table : List Transaction → (ℕ → List ℕ) → ℕ → List ℕ
 table ts sectors r = laid ts (homeUnit sectors) r
 
