@@ -5,3 +5,4 @@ pub mod Settings
 pub mod Found
 pub mod Accepted
 pub mod Kept
+pub mod Unchanged

@@ -5,7 +5,11 @@ use mathlib.Core.List.{List}
 use Prim.Native.Nat.{ℕ, _*_, _≤_}
 use lib.ListN.{length}
 use Rattle.std.specs.declared.option.Option.{Option}
+use Rattle.refusal.specs.declared.reason.Refusal.{Refusal}
+use Rattle.refusal.specs.declared.reason.Refusal.the-variants.{Dark}
 use Rattle.device.specs.Pieces.{isUnsettled}
+use Rattle.device.specs.Words.{wordsOf}
+use Rattle.device.specs.Sectors.{sectorsOf}
 use Rattle.crash.specs.Pair.{isDark, PairAccepts}
 use Rattle.ringlaws.specs.Layout.{recordsOf}
 use Rattle.ringlaws.specs.TxnInfo.{Transaction, numbersOf, recordUnits, countLimit, distinct, allBelow}
@@ -13,8 +17,9 @@ use Rattle.ringlaws.specs.Spells.{Whole}
 use Rattle.calls.specs.declared.state.State.the-variants.{Unmounted}
 use Rattle.calls.specs.declared.call.Call.{Call}
 use Rattle.calls.specs.declared.answer.Answer.{Answer}
+use Rattle.calls.specs.declared.answer.Answer.the-variants.{Refused}
 use Rattle.calls.specs.Plans.{Machine, Kind, placesOf, blocksOf, ring, tableOf, planOf}
-use Rattle.calls.specs.Steps.{Step}
+use Rattle.calls.specs.Steps.{Step, MachineRestarted}
 use Rattle.calllaws.specs.Holds.{Keeps}
 
 -- the settings of an open transaction on a disk of B blocks: at most 30, of records of the disk, all different, 32 words each
@@ -52,3 +57,16 @@ Only-darkness-stops-calls {R} kind =
 abbrev pub Calls-keep-order : {R : Type 0} → Kind R → Type 0
 Calls-keep-order {R} kind =
     WritesUnits kind → (m n : Machine) (call : Call R) (a : Answer R) → InOrder m → EndsThere m → Step kind m call a n → InOrder n
+
+-- A refused call, but for darkness, leaves the present contents of both devices as they were.
+pub record SameContents (m n : Machine) : Type 0 where
+  pub words : (w : ℕ) → wordsOf (n .devices .nvm) w ≡ wordsOf (m .devices .nvm) w
+  pub sectors : (s : ℕ) → sectorsOf (n .devices .disk) s ≡ sectorsOf (m .devices .disk) s
+
+abbrev pub Refusals-change-nothing : {R : Type 0} → Kind R → Type 0
+Refusals-change-nothing {R} kind =
+    (m n : Machine) (call : Call R) (e : Refusal) → EndsThere m → (e ≡ Dark → ⊥) → Step kind m call (Refused e) n → SameContents m n
+
+-- A restarted store, whatever its devices hold, is in order.
+abbrev pub Restarts-give-order : Type 0
+Restarts-give-order = (m n : Machine) → MachineRestarted m n → InOrder n
