@@ -4,6 +4,7 @@ use mathlib.Core.Bool.{true, false}
 use mathlib.Core.List.{List}
 use Prim.Native.Nat.{ℕ, _*_, _≤_}
 use lib.ListN.{length}
+use Rattle.std.specs.declared.option.Option.{Option}
 use Rattle.device.specs.Pieces.{isUnsettled}
 use Rattle.crash.specs.Pair.{isDark, PairAccepts}
 use Rattle.ringlaws.specs.Layout.{recordsOf}
@@ -33,6 +34,10 @@ pub record InOrder (m : Machine) : Type 0 where
 pub record EndsThere (m : Machine) : Type 0 where
   pub nvm : (w : ℕ) → 32 * m .devices .nvm .size ≤ w → isUnsettled (m .devices .nvm .piece w) ≡ false
   pub disk : (s : ℕ) → 8 * m .devices .disk .size ≤ s → isUnsettled (m .devices .disk .piece s) ≡ false
+
+-- a kind of record from the unit that each record is written as and the record that each unit reads as
+abbrev pub kindOf : {R : Type 0} → (R → List ℕ) → (List ℕ → Option R) → Kind R
+kindOf unit reads = record { unit = unit; reads = reads }
 
 -- each record is written as a unit of 32 words
 abbrev pub WritesUnits : {R : Type 0} → Kind R → Type 0
