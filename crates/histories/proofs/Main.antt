@@ -2,8 +2,8 @@
 use mathlib.Core.Path.{_≡_, refl, ap, sym, _∙_}
 use mathlib.Core.Bool.{Bool, true, false, cond}
 use mathlib.Core.List.{List, [], _∷_, _++_}
-use mathlib.Core.Logic.{_⊎_, inl, inr}
-use Prim.Native.Nat.{ℕ, _+_, _*_, _≤_}
+use mathlib.Core.Logic.{inl, inr}
+use Prim.Native.Nat.{ℕ, _≤_}
 use native.Mathlib.Omega.{arith}
 use lib.Dec.{ltb}
 use Rattle.std.proofs.shelf.Tests.{le-ltb, cases-bool, both-ways}
@@ -12,7 +12,6 @@ use Rattle.device.specs.Pieces.{settled, unsettled, isUnsettled}
 use Rattle.device.specs.Words.{Word, waiting}
 use Rattle.device.specs.Sectors.{Sector, waits}
 use Rattle.crash.specs.Pair.{Pair, both, PerformedPair}
-use Rattle.ringlaws.specs.TxnInfo.{Transaction}
 use Rattle.ringlaws.specs.Newest.{settingOf, lay, laid}
 use Rattle.calls.specs.declared.state.State.the-variants.{Unmounted, Idle, Open}
 use Rattle.calls.specs.declared.call.Call.the-variants.{Format, Mount, Begin, Set, Read, Commit}
