@@ -1,21 +1,21 @@
 -- A commit of record 5 that is cut right after its tail is stored: the tail word is unsettled, so the devices may come back with
 -- the old ring or with the new one. Assumes nothing.
 use mathlib.Core.Path.{_≡_, refl, sym, ap, subst, _∙_}
-use mathlib.Core.Bool.{true, false, cond}
+use mathlib.Core.Bool.{false}
 use mathlib.Core.List.{List, [], _∷_, _++_, map, append-assoc}
 use mathlib.Core.Logic.{_⊎_, inl, inr}
-use Prim.Native.Nat.{ℕ, zero, suc, _+_, _-_, _%_, _≤_, _<_}
+use Prim.Native.Nat.{ℕ, zero, suc, _+_, _%_, _≤_, _<_}
 use native.Mathlib.Omega.{arith}
 use lib.ListN.{length, getD}
 use Rattle.refusal.specs.declared.reason.Refusal.the-variants.{Dark}
-use Rattle.device.specs.Pieces.{Piece, settled, unsettled, settledValue, presentValue}
-use Rattle.device.specs.Devices.{Meaning, darkened, Restarted}
+use Rattle.device.specs.Pieces.{settled, unsettled, settledValue, presentValue}
+use Rattle.device.specs.Devices.{Meaning, darkened}
 use Rattle.device.specs.Words.{NvmAct, Word, waiting, Store, Flush, Fence, nvmMakes, nvmRules}
 use Rattle.crash.specs.Acts.{made}
 use Rattle.crash.specs.Pair.{Pair, both, Act, onNvm, CutPair, PairRestarted, PairAccepts}
 use Rattle.crash.proofs.Follow.{made-append}
 use Rattle.crash.proofs.Pairs.{nvm-append, nvm-own}
-use Rattle.ringlaws.specs.Layout.{Contents, headOf, tailOf, headWord, tailWord, usedBetween}
+use Rattle.ringlaws.specs.Layout.{Contents, tailOf, headWord, tailWord, usedBetween}
 use Rattle.ringlaws.specs.TxnInfo.{Transaction}
 use Rattle.ringlaws.specs.Spells.{Whole, unitsOf}
 use Rattle.ringlaws.specs.Newest.{lay}
@@ -28,14 +28,14 @@ use Rattle.calls.specs.Plans.{Kind, Plan}
 use Rattle.calls.specs.Steps.{Step, went-dark, WentDark, MachineRestarted}
 use Rattle.calllaws.specs.Holds.{Keeps}
 use Rattle.calllaws.proofs.Commits.{units-whole}
-use Rattle.calllaws.proofs.CommitPlaces.{filled, low-out, filled-out}
+use Rattle.calllaws.proofs.CommitPlaces.{low-out, filled-out}
 use Rattle.calllaws.proofs.CommitPhases.{preparing, prepares}
 use Rattle.order.proofs.Own.{own, ownPlaces, ownBlocks, ownWords, places-is}
 use Rattle.book.specs.Commits.{placesTaken}
 use Rattle.book.specs.Promise.{Lawful}
 use Rattle.book.proofs.Went.{machine, used-is}
 use Rattle.histories.proofs.Performing.{madeBy, accepted-performs, front-accepted}
-use Rattle.histories.proofs.Stands.{five, five-fair, Stands, here, by-size, commit-law, commit-is, committing, stands-then}
+use Rattle.histories.proofs.Stands.{five, five-fair, Stands, here, by-size, commit-law, commit-is, stands-then}
 
 -- power returns, with each piece at its settled value, or at its present one
 abbrev atSettled : {Mark Value : Type 0} → Meaning Mark Value → Meaning Mark Value

@@ -1,38 +1,38 @@
 -- Any two records of a lawful kind have a history. Assumes nothing.
-use mathlib.Core.Path.{_≡_, refl, ap, sym, subst}
-use mathlib.Core.Bool.{true, false, cond}
+use mathlib.Core.Path.{_≡_, refl, ap, sym, _∙_}
+use mathlib.Core.Bool.{Bool, true, false, cond}
 use mathlib.Core.List.{List, [], _∷_, _++_}
-use mathlib.Core.Logic.{inl}
-use Prim.Native.Nat.{ℕ, _+_, _*_, _≤_}
+use mathlib.Core.Logic.{inl, inr}
+use Prim.Native.Nat.{ℕ, _≤_}
 use native.Mathlib.Omega.{arith}
 use lib.Dec.{ltb}
-use Rattle.std.proofs.shelf.Tests.{le-ltb}
+use Rattle.std.proofs.shelf.Tests.{le-ltb, cases-bool, both-ways}
 use Rattle.refusal.specs.declared.reason.Refusal.the-variants.{Dark}
 use Rattle.device.specs.Pieces.{settled, unsettled, isUnsettled}
 use Rattle.device.specs.Words.{Word, waiting}
 use Rattle.device.specs.Sectors.{Sector, waits}
 use Rattle.crash.specs.Pair.{Pair, both, PerformedPair}
-use Rattle.ringlaws.specs.TxnInfo.{Transaction}
 use Rattle.ringlaws.specs.Newest.{settingOf, lay, laid}
 use Rattle.calls.specs.declared.state.State.the-variants.{Unmounted, Idle, Open}
 use Rattle.calls.specs.declared.call.Call.the-variants.{Format, Mount, Begin, Set, Read, Commit}
 use Rattle.calls.specs.declared.answer.Answer.the-variants.{Refused, Done, Used, Blocks, Found}
 use Rattle.calls.specs.Table.{zeroUnit, isNamed, namesIn}
 use Rattle.calls.specs.Acts.{formatActs, namedBlocks}
-use Rattle.calls.specs.Plans.{Machine, Kind}
+use Rattle.calls.specs.Plans.{Machine, Kind, placesOf, blocksOf, put}
 use Rattle.calls.specs.Steps.{Step, went, MachineRestarted}
 use Rattle.calllaws.specs.FormatLaw.{AnyContents}
 use Rattle.calllaws.proofs.Formats.{formats-make-an-empty-store}
 use Rattle.order.specs.Order.{EndsThere}
 use Rattle.order.proofs.Performed.{stays-lit}
-use Rattle.book.specs.Book.{Book, blank, next, restarted}
+use Rattle.book.specs.Book.{Book, blank, next, restarted, bookRead}
 use Rattle.book.specs.Runs.{Event, called, restart, Run, start, asked, returned, isKept}
-use Rattle.book.specs.Commits.{placesTaken, none}
-use Rattle.book.specs.Promise.{Lawful}
+use Rattle.book.specs.Commits.{tally, placesTaken, none}
+use Rattle.book.specs.Promise.{Lawful, Right}
+use Rattle.book.proofs.Main.{every-run-keeps-the-book}
 use Rattle.book.proofs.Went.{machine}
 use Rattle.histories.specs.History.{Ending, History, upToTheCut, A-history-happens}
 use Rattle.histories.proofs.Performing.{madeBy, accepted-performs}
-use Rattle.histories.proofs.Stands.{five, Stands, Mounts, mounts, begins, sets, reads, Commits, commits}
+use Rattle.histories.proofs.Stands.{five, found, Stands, Mounts, mounts, begins, sets, reads, Commits, commits}
 use Rattle.histories.proofs.Cut.{dark, cuts, old, new, old-returns, new-returns, old-stands, new-stands}
 
 -- noise: each word and sector of the devices is unsettled
@@ -142,8 +142,9 @@ module _ {R : Type 0} (kind : Kind R) (lawful : Lawful kind) where
     abbrev bookCut : Book
     bookCut = next kind (next kind (next kind bookOnce Begin Done) (Set 5 y) Done) Commit (Refused Dark)
 
-    abbrev bookAfter : Machine → R → Book
-    bookAfter m z = next kind (next kind (restarted bookCut (isKept bookCut m)) Mount (Blocks 1)) (Read 5) (Found z)
+    -- after a restart, with the cut commit kept or not, and a mount
+    abbrev bookMounted : Bool → Book
+    bookMounted keep = next kind (restarted bookCut keep) Mount (Blocks 1)
 
     -- up to the first commit
     abbrev once : List (Event R)
@@ -194,19 +195,87 @@ module _ {R : Type 0} (kind : Kind R) (lawful : Lawful kind) where
     unfolding settingOf
     new-five = refl
 
-    ending : (z : R) (back last : Machine) → MachineRestarted darkened back → Step kind back Mount (Blocks 1) last → Step kind last (Read 5) (Found z) last
-        → Ending kind m₁ darkened (upToTheCut x y) z
-    ending z back last returns mount read = record {
+    -- what comes of a return: the run up to the mount, and a read
+    record Comes (z : R) (back : Machine) : Type 0 where
+      returns : MachineRestarted darkened back
+      last : Machine
+      one-block : blocksOf last ≡ 1
+      mount : Step kind back Mount (Blocks 1) last
+      read : Step kind last (Read 5) (Found z) last
+
+    abbrev mounted : List (Event R)
+    mounted = upToTheCut x y ++ restart ∷ called Mount (Blocks 1) ∷ []
+
+    run-mounted : (z : R) (back : Machine) (e : Comes z back) → Run kind m₁ blank mounted (e .last) (bookMounted (isKept bookCut back))
+    run-mounted z back e =
+        asked {events = upToTheCut x y ++ restart ∷ []} (returned {events = upToTheCut x y} run-cut (e .returns)) refl (e .mount)
+
+    ending : (z : R) (back : Machine) → Comes z back → Ending kind m₁ darkened (upToTheCut x y) z
+    ending z back e = record {
       back = back;
-      returns = returns;
-      last = last;
-      book = bookAfter back z;
-      run = asked {events = upToTheCut x y ++ restart ∷ called Mount (Blocks 1) ∷ []}
-          (asked {events = upToTheCut x y ++ restart ∷ []} (returned {events = upToTheCut x y} run-cut returns) refl mount)
-          refl read;
+      returns = e .returns;
+      last = e .last;
+      book = next kind (bookMounted (isKept bookCut back)) (Read 5) (Found z);
+      run = asked {events = mounted} (run-mounted z back e) refl (e .read);
+    }
+
+    -- the promise says that the read is the book's
+    by-right : (z : R) (last : Machine) (k : Bool) → blocksOf last ≡ 1 → Right kind (placesOf last) (blocksOf last) (bookMounted k) (tally kind mounted .lying) (Read 5) (Found z)
+        → Found z ≡ bookRead kind 1 (bookMounted k) 5
+    by-right z last k one (inl h) = absurd (both-ways false refl (h .0))
+    by-right z last k one (inr (inl h)) = h .1 ∙ ap (λ (b : ℕ). bookRead kind b (bookMounted k) 5) one
+    by-right z last k one (inr (inr h)) = absurd (both-ways false refl (h .1))
+
+    read-is : (z : R) (back : Machine) → Comes z back → Found z ≡ bookRead kind 1 (bookMounted (isKept bookCut back)) 5
+    read-is z back e =
+        by-right z (e .last) (isKept bookCut back) (e .one-block)
+        (every-run-keeps-the-book kind lawful (machine noise Unmounted []) m₁ noise-ends (formats .step) mounted (e .last) (bookMounted (isKept bookCut back)) (run-mounted z back e)
+        .answers (Read 5) (Found z) (e .last) refl (e .read))
+
+    with-commit : bookRead kind 1 (bookMounted true) 5 ≡ Found y
+    unfolding settingOf put
+    with-commit = found kind lawful y
+
+    without-commit : bookRead kind 1 (bookMounted false) 5 ≡ Found x
+    unfolding settingOf put
+    without-commit = found kind lawful x
+
+    same-found : (a b : R) → Found a ≡ Found b → a ≡ b
+    same-found a b e = cc
+
+    -- so the book kept the commit, or did not
+    was-left : (back : Machine) → Comes x back → (x ≡ y → ⊥) → isKept bookCut back ≡ false
+    was-left back e ne = elim (cases-bool (isKept bookCut back)) [
+      | inl k ↦ absurd (ne (same-found x y (read-is x back e ∙ ap (λ (b : Bool). bookRead kind 1 (bookMounted b) 5) k ∙ with-commit)))
+      | inr k ↦ k
+    ]
+
+    was-kept : (back : Machine) → Comes y back → (x ≡ y → ⊥) → isKept bookCut back ≡ true
+    was-kept back e ne = elim (cases-bool (isKept bookCut back)) [
+      | inl k ↦ k
+      | inr k ↦ absurd (ne (same-found x y (sym (read-is y back e ∙ ap (λ (b : Bool). bookRead kind 1 (bookMounted b) 5) k ∙ without-commit))))
+    ]
+
+    old-comes : Comes x (machine oldPair Unmounted [])
+    old-comes = record {
+      returns = old-returns kind lawful (one .after) u units (one .stands) y;
+      last = machine (old-mounts .after) Idle [];
+      one-block = old-mounts .stands .keeps .ready .blocks;
+      mount = old-step;
+      read = reads kind lawful (old-mounts .after) [] units (old-mounts .stands) x old-five;
+    }
+
+    new-comes : Comes y (machine newPair Unmounted [])
+    new-comes = record {
+      returns = new-returns kind lawful (one .after) u units (one .stands) y;
+      last = machine (new-mounts .after) Idle [];
+      one-block = new-mounts .stands .keeps .ready .blocks;
+      mount = new-step;
+      read = reads kind lawful (new-mounts .after) [] (lay (five v) units) (new-mounts .stands) y new-five;
     }
 
     history : History kind x y
+    unfolding ending
     history = record {
       noisy = machine noise Unmounted [];
       ends = noise-ends;
@@ -216,10 +285,10 @@ module _ {R : Type 0} (kind : Kind R) (lawful : Lawful kind) where
       book = bookCut;
       run = run-cut;
       cut = refl;
-      without = ending x (machine oldPair Unmounted []) (machine (old-mounts .after) Idle []) (old-returns kind lawful (one .after) u units (one .stands) y) old-step
-          (reads kind lawful (old-mounts .after) [] units (old-mounts .stands) x old-five);
-      with-it = ending y (machine newPair Unmounted []) (machine (new-mounts .after) Idle []) (new-returns kind lawful (one .after) u units (one .stands) y) new-step
-          (reads kind lawful (new-mounts .after) [] (lay (five v) units) (new-mounts .stands) y new-five);
+      without = ending x (machine oldPair Unmounted []) old-comes;
+      left = was-left (machine oldPair Unmounted []) old-comes;
+      with-it = ending y (machine newPair Unmounted []) new-comes;
+      kept = was-kept (machine newPair Unmounted []) new-comes;
     }
 
 pub a-history-happens : {R : Type 0} (kind : Kind R) → Lawful kind → A-history-happens kind

@@ -1,16 +1,15 @@
 -- A store of 32 places and one block that stands at a call boundary, and the calls that it can then perform. Assumes nothing.
 use mathlib.Core.Path.{_≡_, refl, sym, ap, subst, _∙_}
-use mathlib.Core.Bool.{true, false, cond}
+use mathlib.Core.Bool.{true, false}
 use mathlib.Core.List.{List, [], _∷_, _++_}
 use mathlib.Core.Logic.{inl, inr}
-use Prim.Native.Nat.{ℕ, zero, suc, _+_, _-_, _≤_, _<_}
+use Prim.Native.Nat.{ℕ, _+_, _-_, _≤_, _<_}
 use native.Mathlib.Omega.{arith}
 use lib.Dec.{eqb, ltb}
 use lib.ListN.{length, replicate}
-use Rattle.std.proofs.shelf.Ways.{tells}
 use Rattle.std.proofs.shelf.Tests.{cond-true, cond-false, cases-bool, and-parts, eqb-true, le-ltb}
 use Rattle.std.specs.declared.option.Option.{Option}
-use Rattle.std.specs.declared.option.Option.the-variants.{Some, None}
+use Rattle.std.specs.declared.option.Option.the-variants.{None}
 use Rattle.refusal.specs.declared.reason.Refusal.{Refusal}
 use Rattle.refusal.specs.declared.reason.Refusal.the-variants.{NoSuchRecord, RingFull}
 use Rattle.crash.specs.Runs.{done}
@@ -18,14 +17,13 @@ use Rattle.crash.specs.Pair.{Pair, Act, isDark, PerformedPair, settlingBoth}
 use Rattle.ringlaws.specs.Layout.{recordsOf, used}
 use Rattle.ringlaws.specs.TxnInfo.{Transaction, member, allZero}
 use Rattle.ringlaws.specs.Spells.{Fair}
-use Rattle.ringlaws.specs.Newest.{settingOf, lay, laid}
+use Rattle.ringlaws.specs.Newest.{settingOf, lay}
 use Rattle.calls.specs.declared.state.State.the-variants.{Unmounted, Idle, Open}
 use Rattle.calls.specs.declared.call.Call.the-variants.{Mount, Begin, Set, Read, Commit}
-use Rattle.calls.specs.declared.answer.Answer.{Answer}
 use Rattle.calls.specs.declared.answer.Answer.the-variants.{Done, Used, Blocks, Absent, Found}
-use Rattle.calls.specs.Table.{table, isNamed, namesIn, zeroUnit}
+use Rattle.calls.specs.Table.{table}
 use Rattle.calls.specs.Acts.{commitActs, checkpointActs, namedBlocks}
-use Rattle.calls.specs.Plans.{Machine, Kind, Plan, tableOf, refusing, put, setRefusal, isFull, added, readBy, readUnit, setBy, planOf}
+use Rattle.calls.specs.Plans.{Kind, Plan, tableOf, refusing, put, setRefusal, isFull, readBy, readUnit, setBy, planOf}
 use Rattle.calls.specs.Steps.{Step, went, Went}
 use Rattle.calllaws.specs.Holds.{Keeps}
 use Rattle.calllaws.specs.CommitLaw.{CommitComesTo}
@@ -33,9 +31,9 @@ use Rattle.calllaws.proofs.Commits.{commits-are-atomic}
 use Rattle.calllaws.proofs.Mounts.{mounts-keep-the-table}
 use Rattle.order.proofs.Own.{Own, own, ownPlaces, ownBlocks, ownWords, ownSectors, places-is, blocks-is, ring-is}
 use Rattle.order.proofs.Performed.{stays-lit}
-use Rattle.book.specs.Commits.{Fate, done as whole, placesTaken, none, WholeAndInOrder}
+use Rattle.book.specs.Commits.{Fate, done as whole, placesTaken, WholeAndInOrder}
 use Rattle.book.specs.Promise.{Lawful}
-use Rattle.book.proofs.Goods.{Readable, Good, good-none, good-fair, put-good, lay-readable}
+use Rattle.book.proofs.Goods.{Readable, good-none, good-fair, put-good, lay-readable}
 use Rattle.book.proofs.Follows.{commit-takes}
 use Rattle.book.proofs.Went.{machine, used-is, mount-plan-is}
 use Rattle.histories.proofs.Performing.{madeBy, accepted-performs}

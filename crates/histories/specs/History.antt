@@ -1,7 +1,7 @@
 -- A history that happens. The promise speaks of every run from an accepted format on; here is one, with two endings: nothing that
 -- it assumes is empty, and a cut commit may be kept or not. Assumes nothing.
 use mathlib.Core.Path.{_≡_}
-use mathlib.Core.Bool.{Bool, true, false}
+use mathlib.Core.Bool.{true, false}
 use mathlib.Core.List.{List, [], _∷_, _++_}
 use Rattle.refusal.specs.declared.reason.Refusal.the-variants.{Dark}
 use Rattle.calls.specs.declared.call.Call.the-variants.{Format, Mount, Begin, Set, Read, Commit}
@@ -42,9 +42,12 @@ pub record History {R : Type 0} (kind : Kind R) (x y : R) : Type 0 where
   pub book : Book
   pub run : Run kind formatted blank (upToTheCut x y) dark book
   pub cut : book .cut ≡ true
-  -- the two endings of the one dark store
+  -- the two endings of the one dark store; if the records differ, the book has left the cut commit out in one and kept it in
+  -- the other
   pub without : Ending kind formatted dark (upToTheCut x y) x
+  pub left : (x ≡ y → ⊥) → isKept book (without .back) ≡ false
   pub with-it : Ending kind formatted dark (upToTheCut x y) y
+  pub kept : (x ≡ y → ⊥) → isKept book (with-it .back) ≡ true
 
 -- any two records of a kind have a history
 abbrev pub A-history-happens : {R : Type 0} → Kind R → Type 0
