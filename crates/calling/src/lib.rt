@@ -2,4 +2,5 @@
 pub mod checkpoint;
 pub mod ends;
 pub mod format;
+pub mod read;
 mod sizes;
