@@ -6,14 +6,26 @@ use std::fmt;
 use tile::record::Tile;
 use workbench::answer::Answer;
 
-/// Why there is no such record, in a few words.
+pub mod memory;
+pub mod ring;
+
+/// Why a call is refused, in a few words.
 fn reason(why: Refusal) -> &'static str {
     match why {
+        Refusal::Beyond => "beyond the size",
+        Refusal::Unsettled => "the word is not settled",
+        Refusal::Dark => "power is gone",
+        Refusal::NoMemory => "no memory",
+        Refusal::UnsoundRing(_) => "the ring is unsound",
+        Refusal::NotOpen => "nothing waits",
+        Refusal::NoSuchRecord => "no such record",
+        Refusal::TooManyRecords => "30 other records wait already",
+        Refusal::RingFull => "the ring has no room",
         Refusal::ColumnOrRow => "column or row above 65535",
         Refusal::Level => "level below -200.0 or above 50.0 dBm",
         Refusal::NameLength => "name of no bytes or of more than 232",
         Refusal::NameByte => "a byte of the name is not printed ASCII",
-        _ => "not a refusal of a record",
+        _ => "not a refusal of this program",
     }
 }
 
@@ -95,5 +107,23 @@ pub struct InWords<'a> {
 pub impl fmt::Display for InWords<'_> as InWordsDisplay {
     fn fmt<W: fmt::Write>(&self, f: &mut fmt::Formatter<W>) -> fmt::Result {
         show_answer(self.answer, f)
+    }
+}
+
+/// A refusal, to be printed: its number, why, and the place where a ring is unsound.
+#[derive(Clone, Copy)]
+pub struct InShort {
+    pub why: Refusal,
+}
+
+pub impl fmt::Display for InShort as InShortDisplay {
+    fn fmt<W: fmt::Write>(&self, f: &mut fmt::Formatter<W>) -> fmt::Result {
+        let code = self.why.number();
+        let words = reason(self.why);
+        write!(f, "refused {code}: {words}")?;
+        if let Refusal::UnsoundRing(place) = self.why {
+            write!(f, " at place {place}")?;
+        }
+        Ok(())
     }
 }
