@@ -220,17 +220,11 @@ module _ {R : Type 0} (kind : Kind R) (lawful : Lawful kind) where
     }
 
     -- the promise says that the read is the book's
-    by-right : (z : R) (last : Machine) (k : Bool) → blocksOf last ≡ 1 → Right kind (placesOf last) (blocksOf last) (bookMounted k) (tally kind mounted .lying) (Read 5) (Found z)
-        → Found z ≡ bookRead kind 1 (bookMounted k) 5
-    by-right z last k one (inl h) = absurd (both-ways false refl (h .0))
-    by-right z last k one (inr (inl h)) = h .1 ∙ ap (λ (b : ℕ). bookRead kind b (bookMounted k) 5) one
-    by-right z last k one (inr (inr h)) = absurd (both-ways false refl (h .1))
-
     read-is : (z : R) (back : Machine) → Comes z back → Found z ≡ bookRead kind 1 (bookMounted (isKept bookCut back)) 5
     read-is z back e =
-        by-right z (e .last) (isKept bookCut back) (e .one-block)
-        (every-run-keeps-the-book kind lawful (machine noise Unmounted []) m₁ noise-ends (formats .step) mounted (e .last) (bookMounted (isKept bookCut back)) (run-mounted z back e)
-        .answers (Read 5) (Found z) (e .last) refl (e .read))
+        every-run-keeps-the-book kind lawful (machine noise Unmounted []) m₁ noise-ends (formats .step) mounted (e .last) (bookMounted (isKept bookCut back)) (run-mounted z back e)
+        .reads 5 (Found z) (e .last) (e .read)
+        ∙ ap (λ (b : ℕ). bookRead kind b (bookMounted (isKept bookCut back)) 5) (e .one-block)
 
     with-commit : bookRead kind 1 (bookMounted true) 5 ≡ Found y
     unfolding settingOf put
