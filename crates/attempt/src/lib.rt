@@ -2,7 +2,7 @@
 ghost use Rattle.std.specs.Prelude.{◌≡◌, IfSome};
 ghost use Rattle.order.specs.Order.{kind_of};
 ghost use Rattle.settings.specs.Puts.{list_of};
-ghost use Rattle.calling.specs.Seen.{seen};
+ghost use Rattle.store.specs.Called.{seen};
 ghost use Rattle.attempt.specs.Tried.{Tried, GivenBack};
 
 use device::disk::Disk;
@@ -19,9 +19,9 @@ pub fn try_set<N: Nvm, D: Disk, K: RecordKind>(
     value: &K::Record,
 ) -> Result<(), Refusal>
     ensures { Tried (kind_of K.RecordKind.unit K.RecordKind.reads)
-        (seen (N.Nvm.meaning store.old.engine.nvm) (D.Disk.meaning store.old.engine.disk) store.old.engine.state (list_of store.old.engine.settings))
+        (seen (N.Nvm.meaning store.old.nvm) (D.Disk.meaning store.old.disk) store.old.state (list_of store.old.settings))
         number value.now result
-        (seen (N.Nvm.meaning store.new.engine.nvm) (D.Disk.meaning store.new.engine.disk) store.new.engine.state (list_of store.new.engine.settings)) }
+        (seen (N.Nvm.meaning store.new.nvm) (D.Disk.meaning store.new.disk) store.new.state (list_of store.new.settings)) }
 {
     let ticket = store.begin()?;
     let answer = store.set(&ticket, number, value);
@@ -36,9 +36,9 @@ pub fn give_back<N: Nvm, D: Disk, K: RecordKind>(
 ) -> Result<(), Refusal>
     requires { IfSome held (λ t. t.live ≡ 1) }
     ensures { GivenBack (kind_of K.RecordKind.unit K.RecordKind.reads) held
-        (seen (N.Nvm.meaning store.old.engine.nvm) (D.Disk.meaning store.old.engine.disk) store.old.engine.state (list_of store.old.engine.settings))
+        (seen (N.Nvm.meaning store.old.nvm) (D.Disk.meaning store.old.disk) store.old.state (list_of store.old.settings))
         result
-        (seen (N.Nvm.meaning store.new.engine.nvm) (D.Disk.meaning store.new.engine.disk) store.new.engine.state (list_of store.new.engine.settings)) }
+        (seen (N.Nvm.meaning store.new.nvm) (D.Disk.meaning store.new.disk) store.new.state (list_of store.new.settings)) }
 {
     match held {
         Some(ticket) => store.abandon(ticket),

@@ -2,5 +2,4 @@ pub mod Goods
 pub mod Follows
 pub mod Went
 pub mod WentDark
-pub mod Formats
 pub mod Main

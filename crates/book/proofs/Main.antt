@@ -18,7 +18,7 @@ use Rattle.ringlaws.specs.Newest.{lay, laid}
 use Rattle.calls.specs.declared.state.State.{State}
 use Rattle.calls.specs.declared.state.State.TheVariants.{Unmounted, Idle, Open}
 use Rattle.calls.specs.declared.call.Call.{Call}
-use Rattle.calls.specs.declared.call.Call.TheVariants.{Format, Mount, Begin, Set, Clear, Read, Commit, Abandon, Checkpoint, Close}
+use Rattle.calls.specs.declared.call.Call.TheVariants.{Format, Mount, Read}
 use Rattle.calls.specs.declared.answer.Answer.{Answer}
 use Rattle.calls.specs.declared.answer.Answer.TheVariants.{Refused, Done, Blocks}
 use Rattle.calls.specs.Table.{table, zero_unit}
@@ -43,7 +43,6 @@ use Rattle.book.proofs.Goods.{Readable, EachReadable, Good, good_none, lay_reada
 use Rattle.book.proofs.Follows.{live, tallied, Live, Gone, Follows, lives, gone, Owes}
 use Rattle.book.proofs.Went.{follow, went_step}
 use Rattle.book.proofs.WentDark.{died}
-use Rattle.book.proofs.Formats.{format_right}
 
 -- two tables that are the same below n
 same_sound : (n : ℕ) (x y : ℕ → List ℕ) → same_below n x y ≡ true → (r : ℕ) → r < n → x r ≡ y r
@@ -133,20 +132,6 @@ module _ {R : Type 0} (kind : Kind R) (lawful : Lawful kind) (N B : ℕ) where
   step m n b t call a f (gone v) (went w) = absurd (both_ways (is_dark m.devices) w.before v.out)
   step m n b t call a f (gone v) (went_dark w) = absurd (both_ways (is_dark m.devices) w.before v.out)
 
-  -- every call, a format too, is answered right
-  right : (m n : Machine) (b : Book) (t : Tally) (call : Call R) (a : Answer R) → Follows kind N B m b t → Step kind m call a n
-      → Right kind (places_of m) (blocks_of m) b t.lying call a
-  right m n b t Format a f s = format_right kind lawful N B m n b t a f s
-  right m n b t Mount a f s = (step m n b t Mount a refl f s).0
-  right m n b t Begin a f s = (step m n b t Begin a refl f s).0
-  right m n b t (Set r x) a f s = (step m n b t (Set r x) a refl f s).0
-  right m n b t (Clear r) a f s = (step m n b t (Clear r) a refl f s).0
-  right m n b t (Read r) a f s = (step m n b t (Read r) a refl f s).0
-  right m n b t Commit a f s = (step m n b t Commit a refl f s).0
-  right m n b t Abandon a f s = (step m n b t Abandon a refl f s).0
-  right m n b t Checkpoint a f s = (step m n b t Checkpoint a refl f s).0
-  right m n b t Close a f s = (step m n b t Close a refl f s).0
-
   -- the table of devices that keep these units
   table_is : (n : Machine) (ts : List Transaction) (units : ℕ → List ℕ) → Keeps N B n.devices ts units → (r : ℕ) → r < records_of (blocks_of n) → table_of n r ≡ units r
   table_is n ts units k r lt =
@@ -235,7 +220,7 @@ module _ {R : Type 0} (kind : Kind R) (lawful : Lawful kind) (N B : ℕ) where
   tally_more t [] e = refl
   tally_more t (x ∷ es) e = tally_more (tally_event kind t x) es e
 
-  pub follows : (m₁ m : Machine) (b : Book) (es : List (Event R)) → Follows kind N B m₁ blank no_tally → Run kind m₁ blank es m b → Follows kind N B m b (tally kind es)
+  follows : (m₁ m : Machine) (b : Book) (es : List (Event R)) → Follows kind N B m₁ blank no_tally → Run kind m₁ blank es m b → Follows kind N B m b (tally kind es)
   unfolding tally_from
   follows m₁ m b es v start = v
   follows m₁ m b es v (asked {events} {m = x} {b = y} {call} {a} run f s) =
@@ -282,7 +267,7 @@ module _ {R : Type 0} (kind : Kind R) (lawful : Lawful kind) (N B : ℕ) where
 
   promised : (es : List (Event R)) (m : Machine) (b : Book) → Follows kind N B m b (tally kind es) → Promised kind es m b
   promised es m b (lives v) = record {
-    answers = λ call a n s. right m n b (tally kind es) call a (lives v) s;
+    answers = λ call a n f s. (step m n b (tally kind es) call a f (lives v) s).0;
     reads = λ r a n s. right_read (places_of m) (blocks_of m) b (tally kind es).lying r a (step m n b (tally kind es) (Read r) a refl (lives v) s).0;
     mounts = λ e a n s.
         right_mount (places_of m) (blocks_of m) b (tally kind es).lying a (λ _. ap (λ (x : Book). x.state) v.book ∙ e) (step m n b (tally kind es) Mount a refl (lives v) s).0;
@@ -294,7 +279,7 @@ module _ {R : Type 0} (kind : Kind R) (lawful : Lawful kind) (N B : ℕ) where
         (subst (λ (y : Tally). WholeAndInOrder B y.commits v.units) (sym v.tally) v.commits));
   }
   promised es m b (gone v) = record {
-    answers = λ call a n s. right m n b (tally kind es) call a (gone v) s;
+    answers = λ call a n f s. (step m n b (tally kind es) call a f (gone v) s).0;
     reads = λ r a n s. right_read (places_of m) (blocks_of m) b (tally kind es).lying r a (step m n b (tally kind es) (Read r) a refl (gone v) s).0;
     mounts = λ e a n s.
         right_mount (places_of m) (blocks_of m) b (tally kind es).lying a (λ d. absurd (both_ways b.dark d v.book)) (step m n b (tally kind es) Mount a refl (gone v) s).0;
@@ -350,7 +335,7 @@ module _ {R : Type 0} (kind : Kind R) (lawful : Lawful kind) (m₀ m₁ : Machin
   by_state Idle e w = let f = w.says in let z : ◌≡◌ {A = ℕ} 0 1 = cc in absurd (omega arith)
   by_state Open e w = let f = w.says in let z : ◌≡◌ {A = ℕ} 0 1 = cc in absurd (omega arith)
 
-  pub begins : Step kind m₀ Format Done m₁ → Follows kind N B m₁ blank no_tally
+  begins : Step kind m₀ Format Done m₁ → Follows kind N B m₁ blank no_tally
   begins (was_dark w) = let f = w.says in let z : ◌≡◌ {A = ℕ} 0 1 = cc in absurd (omega arith)
   begins (went w) = by_state m₀.state refl w
   begins (went_dark w) = let f = w.says in let z : ◌≡◌ {A = ℕ} 0 1 = cc in absurd (omega arith)

@@ -220,7 +220,7 @@ module _ {R : Type 0} (kind : Kind R) (lawful : Lawful kind) (N B : ℕ) where
           (subst (λ (x : List Transaction). Went (record { acts = checkpoint_acts (own_blocks d) (own_words d) x (own_sectors d); answer = a₀; state = s'; list = l }) (machine d s l) a n) (ring_is d ts units o) w)
           right book tally
 
-      pub fits : fit_sizes d.nvm.size (own_blocks d) ≡ true
+      fits : fit_sizes d.nvm.size (own_blocks d) ≡ true
       fits =
           let g = o.ready in
           let least : least_places < d.nvm.size = omega arith in

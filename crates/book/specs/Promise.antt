@@ -14,7 +14,7 @@ use Rattle.calls.specs.Plans.{Machine, Kind, places_of, blocks_of, set_refusal, 
 use Rattle.calls.specs.Steps.{Step}
 use Rattle.order.specs.Order.{EndsThere}
 use Rattle.book.specs.Book.{Book, blank, book_read}
-use Rattle.book.specs.Runs.{Event, Run}
+use Rattle.book.specs.Runs.{Event, Run, is_format}
 use Rattle.book.specs.Commits.{tally, places_taken, WholeAndInOrder}
 
 -- the laws of a record kind; a unit has 32 words
@@ -75,8 +75,8 @@ Right kind N B b lying call a =
 
 -- The promise after a run with these events.
 pub record Promised {R : Type 0} (kind : Kind R) (es : List (Event R)) (m : Machine) (b : Book) : Type 0 where
-  -- every next call, a format too, is answered right by the book, however power fails
-  pub answers : (call : Call R) (a : Answer R) (n : Machine) → Step kind m call a n
+  -- every next call, whatever it is and however power fails, is answered right by the book
+  pub answers : (call : Call R) (a : Answer R) (n : Machine) → is_format call ≡ false → Step kind m call a n
       → Right kind (places_of m) (blocks_of m) b (tally kind es).lying call a
   -- every read answers exactly as the book does
   pub reads : (r : ℕ) (a : Answer R) (n : Machine) → Step kind m (Read r) a n → a ≡ book_read kind (blocks_of m) b r

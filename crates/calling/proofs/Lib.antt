@@ -1,3 +1,4 @@
 pub mod Stepping
 pub mod Mounted
 pub mod Looking
+pub mod Asking

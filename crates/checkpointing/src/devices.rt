@@ -1,7 +1,9 @@
 //! A checkpoint of both devices.
 ghost use Rattle.std.specs.Prelude.{◌≡◌, List, IfOk, MatchResult};
-ghost use Rattle.device.specs.Words.{words_of};
+ghost use Rattle.device.specs.Words.{nvm_rules, words_of};
 ghost use Rattle.device.specs.Sectors.{sectors_of};
+ghost use Rattle.crash.specs.Acts.{RanOn};
+ghost use Rattle.crash.specs.Rows.{sealing};
 ghost use Rattle.crash.specs.Pair.{both, RanPair};
 ghost use Rattle.ringlaws.specs.Layout.{tail_of};
 ghost use Rattle.ringlaws.specs.TxnInfo.{Transaction};
@@ -11,12 +13,15 @@ ghost use Rattle.checkpointing.specs.Ready.{Fit, Ready};
 use crate::blocks::write_homes;
 use crate::gather::gather;
 use crate::loads::Loads;
-use acting::memory::seal;
 use device::disk::Disk;
 use device::nvm::Nvm;
 use refusal::reason::Refusal;
-use ringunits::header::{HEAD_WORD, MOST_BLOCKS};
 use ringunits::places::is_ring;
+
+/// The word of the head.
+const HEAD_WORD: usize = 8;
+/// The most blocks of a disk.
+const MOST_BLOCKS: usize = 4096;
 
 /// Memory for the rows of a ring, taken once.
 #[derive(Drop)]
@@ -33,6 +38,15 @@ impl Rows {
             slots: [0; 255],
         }
     }
+}
+
+/// Stores a word and makes it last.
+fn seal<N: Nvm>(nvm: &mut N, word: usize, value: u64) -> Result<(), Refusal>
+    ensures { RanOn nvm_rules (meaning nvm.old) (sealing word value) result (meaning nvm.new) }
+{
+    nvm.store(word, value)?;
+    nvm.flush(word / 8)?;
+    nvm.fence()
 }
 
 /// Refuses devices without power or too small, and a head or tail that is no place.

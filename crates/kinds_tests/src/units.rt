@@ -72,10 +72,13 @@ fn zeros_do_not_read(rt: HostRuntime) {
 fn records_as_text(rt: HostRuntime) -> Result<(), Fail> {
     let tile = Tile::flat(3, 4, 5, -800)?;
     assert_eq!(rt;
-        format!(rt.alloc(), "{tile}")?.as_str(),
+        format!(in rt.alloc(); "{tile}")?.as_str(),
         "tile\t3\t4\t5\t-800"
     );
     let mast = Mast::new(9, b"Ridge")?;
-    assert_eq!(rt; format!(rt.alloc(), "{mast}")?.as_str(), "mast\t9\tRidge");
+    assert_eq!(rt;
+        format!(in rt.alloc(); "{mast}")?.as_str(),
+        "mast\t9\tRidge"
+    );
     Ok(())
 }

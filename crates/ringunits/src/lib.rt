@@ -1,5 +1,4 @@
-//! Unit 0, the places of a ring, its units judged, and its units written.
+//! The places of a ring, its units judged, and its units written.
 pub mod fill;
-pub mod header;
 pub mod info;
 pub mod places;

@@ -1,3 +1,1 @@
-pub mod Returned
-pub mod Tickets
-pub mod OneByOne
+pub mod Called

@@ -1,0 +1,19 @@
+-- An image that was lent as a slice, and answers read off it. Assumes nothing.
+use Rattle.std.proofs.Common.{◌≡◌, ℕ, List, length, Option, Vec, sym, refl, ap, ◌∙◌, subst}
+use Rattle.std.specs.Vec.{with_items}
+use Rattle.std.specs.declared.alloc.Global.{Global}
+use Rattle.std.proofs.lemmas.List.{with_items_is}
+use Rattle.ringlaws.specs.TxnInfo.{Transaction}
+use Rattle.ringunits.specs.Images.{Appends}
+
+-- what is appended to the slice is appended to the `Vec` that was lent
+pub lent_appends : (N : ℕ) (t t' : Transaction) → t ≡ t' → (v : Vec ℕ Global) (old new : List ℕ) → old ≡ v.items → length new ≡ length old
+    → (r : Option ℕ) → Appends N t old r new → Appends N t' v.items r (with_items v new).items
+lent_appends N t t' same v old new is long r a =
+    subst (λ x. Appends N x v.items r (with_items v new).items) same
+    (subst (λ x. Appends N t x r (with_items v new).items) is
+    (subst (λ x. Appends N t old r x) (sym (with_items_is v new (long ∙ ap length is ∙ sym v.ok.0))) a))
+
+-- what holds of some words, a head and a tail holds of equal ones
+pub of_equals : (P : List ℕ → ℕ → ℕ → Type 0) {xs ys : List ℕ} {h k t u : ℕ} → xs ≡ ys → h ≡ k → t ≡ u → P xs h t → P ys k u
+of_equals P {xs} {ys} {h} {k} {t} {u} a b c p = subst (λ z. P ys k z) c (subst (λ z. P ys z t) b (subst (λ z. P z h t) a p))

@@ -1,0 +1,65 @@
+//! The ring place by place.
+use crate::ring::RingDesk;
+use crate::rings::{BLOCKS, PLACES};
+use ring::source::Words;
+use ring::unit::load_unit;
+use ring::walk::step_back;
+use ringunits::places::{is_ring, place_before, used_between};
+
+/// What a place of the ring is.
+#[derive(Clone, Copy)]
+pub enum Role {
+    /// No transaction has it.
+    Free,
+    /// It holds the unit of this record.
+    Record(u64),
+    /// It is the TxnInfo of so many records.
+    TxnInfo { count: usize, words: [u64; 32] },
+    /// Stepping back from the tail is refused before it comes to this place.
+    NotReached,
+}
+
+impl RingDesk {
+    /// The words of a place, or zeros where there is no such place.
+    pub fn unit(&self, place: usize) -> [u64; 32] {
+        if place >= PLACES {
+            return [0; 32];
+        }
+        match load_unit(&Words(self.words()), place + 1) {
+            Ok(words) => words,
+            Err(_) => [0; 32],
+        }
+    }
+
+    /// What a place is, by stepping back from the tail to the transaction that has it.
+    pub fn role(&self, place: usize) -> Role {
+        let head = self.head();
+        let mut end = self.tail();
+        if place >= PLACES || !is_ring(PLACES, head, end) {
+            return Role::NotReached;
+        }
+        let mut left = used_between(PLACES, head, end);
+        if place_before(PLACES, place, head) >= left {
+            return Role::Free;
+        }
+        let words = Words(self.words());
+        while left > 0 {
+            let Ok(step) = step_back(&words, PLACES, BLOCKS, end, left) else {
+                return Role::NotReached;
+            };
+            let index = place_before(PLACES, place, step.first);
+            if index < step.count {
+                return Role::Record(step.info[index]);
+            }
+            if index == step.count {
+                return Role::TxnInfo {
+                    count: step.count,
+                    words: step.info,
+                };
+            }
+            end = step.first;
+            left = step.left;
+        }
+        Role::NotReached
+    }
+}

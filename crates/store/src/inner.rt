@@ -1,0 +1,82 @@
+//! The calls without device acts, for callers that hold no ticket.
+ghost use Rattle.std.specs.Prelude.{◌≡◌};
+ghost use Rattle.crash.specs.Pair.{both, is_dark};
+ghost use Rattle.calls.specs.declared.call.Call.TheVariants.{Begin, Set, Clear, Abandon};
+ghost use Rattle.calls.specs.Judge.{judge as judgement};
+ghost use Rattle.order.specs.Order.{kind_of};
+ghost use Rattle.settings.specs.Puts.{list_of};
+ghost use Rattle.store.specs.Called.{seen, admission, done_answer, Called};
+
+use crate::judge::judge;
+use crate::store::Store;
+use calls::call::Call;
+use calls::state::State;
+use device::disk::Disk;
+use device::nvm::Nvm;
+use kinds::kind::RecordKind;
+use refusal::reason::Refusal;
+
+impl<N: Nvm, D: Disk, K: RecordKind> Store<N, D, K> {
+    /// Lets a call through: darkness is asked first, then the state.
+    pub(crate) fn admit(&self, call: &Call<()>) -> Result<(), Refusal>
+        ensures { result ≡ admission (is_dark (both (N.Nvm.meaning self.now.nvm) (D.Disk.meaning self.now.disk))) (judgement self.now.state call.now) }
+    {
+        if self.is_dark() {
+            return Err(Refusal::Dark);
+        }
+        match judge(self.state, call) {
+            Some(refusal) => Err(refusal),
+            None => Ok(()),
+        }
+    }
+
+    /// Opens a transaction.
+    pub(crate) fn begin_now(&mut self) -> Result<(), Refusal>
+        ensures { Called (kind_of K.RecordKind.unit K.RecordKind.reads)
+            (seen (N.Nvm.meaning self.old.nvm) (D.Disk.meaning self.old.disk) self.old.state (list_of self.old.settings))
+            Begin (done_answer result)
+            (seen (N.Nvm.meaning self.new.nvm) (D.Disk.meaning self.new.disk) self.new.state (list_of self.new.settings)) }
+    {
+        self.admit(&Call::Begin)?;
+        self.state = State::Open;
+        Ok(())
+    }
+
+    /// Sets a record in the open transaction.
+    pub(crate) fn set_now(&mut self, number: u64, value: &K::Record) -> Result<(), Refusal>
+        ensures { Called (kind_of K.RecordKind.unit K.RecordKind.reads)
+            (seen (N.Nvm.meaning self.old.nvm) (D.Disk.meaning self.old.disk) self.old.state (list_of self.old.settings))
+            (Set number value.now) (done_answer result)
+            (seen (N.Nvm.meaning self.new.nvm) (D.Disk.meaning self.new.disk) self.new.state (list_of self.new.settings)) }
+    {
+        self.admit(&Call::Set(number, ()))?;
+        let mut unit = [0; 32];
+        K::encode(value, &mut unit);
+        self.settings.put(number, &unit, self.disk.blocks())
+    }
+
+    /// Sets a record to 32 zero words, which make it absent.
+    pub(crate) fn clear_now(&mut self, number: u64) -> Result<(), Refusal>
+        ensures { Called (kind_of K.RecordKind.unit K.RecordKind.reads)
+            (seen (N.Nvm.meaning self.old.nvm) (D.Disk.meaning self.old.disk) self.old.state (list_of self.old.settings))
+            (Clear number) (done_answer result)
+            (seen (N.Nvm.meaning self.new.nvm) (D.Disk.meaning self.new.disk) self.new.state (list_of self.new.settings)) }
+    {
+        self.admit(&Call::Clear(number))?;
+        let unit = [0; 32];
+        self.settings.put(number, &unit, self.disk.blocks())
+    }
+
+    /// Drops the open transaction.
+    pub(crate) fn abandon_now(&mut self) -> Result<(), Refusal>
+        ensures { Called (kind_of K.RecordKind.unit K.RecordKind.reads)
+            (seen (N.Nvm.meaning self.old.nvm) (D.Disk.meaning self.old.disk) self.old.state (list_of self.old.settings))
+            Abandon (done_answer result)
+            (seen (N.Nvm.meaning self.new.nvm) (D.Disk.meaning self.new.disk) self.new.state (list_of self.new.settings)) }
+    {
+        self.admit(&Call::Abandon)?;
+        self.settings.clear();
+        self.state = State::Idle;
+        Ok(())
+    }
+}

@@ -1,0 +1,86 @@
+//! Reads lines from standard input, and says what was done about each: tiles and masts made, transactions of them committed to
+//! a ring, the ring walked and damaged, and a memory whose power is cut.
+mod memory;
+mod ring;
+
+use crate::memory::run_memory;
+use crate::ring::run_ring;
+use desk::ring::RingDesk;
+use desk::verbs::{Verb, verb_in};
+use lines::split::first_line;
+use nvms::device::PatientNvm;
+use std::io::Read;
+use words::{InShort, InWords};
+use workbench::answer::Answer;
+use workbench::perform::{LIMIT, refuse_input, run_line};
+
+/// All of the input, or of a longer one as much as shows that it is too long.
+fn read_input(rt: &HostRuntime) -> anyhow::Result<Vec<u8>> {
+    let mut text = Vec::new(rt.alloc());
+    let _ = rt.stdin().take(LIMIT as u64 + 1).read_to_end(&mut text)?;
+    Ok(text)
+}
+
+/// Runs a line about a tile or a mast, which then waits for a commit.
+fn run_record(rt: &HostRuntime, desk: &mut RingDesk, line: &[u8]) -> anyhow::Result<()> {
+    let answer = run_line(line);
+    let words = InWords { answer: &answer };
+    println!(rt; "{words}")?;
+    if let Answer::Done { number, trip } = &answer {
+        if let Err(why) = desk.hold(*number, trip.unit) {
+            let words = InShort { why };
+            println!(rt; "  it does not wait for a commit, {words}")?;
+        }
+    }
+    Ok(())
+}
+
+/// Runs the lines one by one and prints the answer to each under its number.
+fn answer_lines(
+    rt: &HostRuntime,
+    desk: &mut RingDesk,
+    nvm: &mut PatientNvm,
+    text: &[u8],
+) -> anyhow::Result<()> {
+    let mut rest = text;
+    let mut number = 1u64;
+    while let Some(split) = first_line(rest) {
+        print!(rt; "line {number}: ")?;
+        match verb_in(split.line) {
+            None => run_record(rt, desk, split.line)?,
+            Some(verb) => {
+                run_ring(rt, desk, verb)?;
+                run_memory(rt, nvm, verb)?;
+            }
+        }
+        number = number.wrapping_add(1);
+        rest = split.rest;
+    }
+    Ok(())
+}
+
+/// A desk and a memory, and all lines.
+fn run_lines(rt: &HostRuntime, text: &[u8]) -> anyhow::Result<()> {
+    let Ok(mut desk) = RingDesk::new(rt.alloc()) else {
+        return Ok(println!(rt; "input: refused 9: no memory")?);
+    };
+    let Ok(mut nvm) = PatientNvm::zeroed(rt.alloc(), 1, u64::MAX) else {
+        return Ok(println!(rt; "input: refused 9: no memory")?);
+    };
+    answer_lines(rt, &mut desk, &mut nvm, text)
+}
+
+fn tour(rt: &HostRuntime) -> anyhow::Result<()> {
+    let text = read_input(rt)?;
+    match refuse_input(text.as_slice()) {
+        Some(answer) => {
+            let words = InWords { answer: &answer };
+            Ok(println!(rt; "input: {words}")?)
+        }
+        None => run_lines(rt, text.as_slice()),
+    }
+}
+
+fn main(rt: HostRuntime) -> anyhow::Result<()> {
+    tour(&rt)
+}

@@ -1,0 +1,129 @@
+//! Answers in words that a planner understands. Nothing is proved of these texts but that they can always be written.
+use joined::record::Joined;
+use mast::record::Mast;
+use refusal::reason::Refusal;
+use std::fmt;
+use tile::record::Tile;
+use workbench::answer::Answer;
+
+pub mod memory;
+pub mod ring;
+
+/// Why a call is refused, in a few words.
+fn reason(why: Refusal) -> &'static str {
+    match why {
+        Refusal::Beyond => "beyond the size",
+        Refusal::Unsettled => "the word is not settled",
+        Refusal::Dark => "power is gone",
+        Refusal::NoMemory => "no memory",
+        Refusal::UnsoundRing(_) => "the ring is unsound",
+        Refusal::NotOpen => "nothing waits",
+        Refusal::NoSuchRecord => "no such record",
+        Refusal::TooManyRecords => "30 other records wait already",
+        Refusal::RingFull => "the ring has no room",
+        Refusal::ColumnOrRow => "column or row above 65535",
+        Refusal::Level => "level below -200.0 or above 50.0 dBm",
+        Refusal::NameLength => "name of no bytes or of more than 232",
+        Refusal::NameByte => "a byte of the name is not printed ASCII",
+        _ => "not a refusal of this program",
+    }
+}
+
+/// A level in dBm, with its tenth.
+fn show_level<W: fmt::Write>(tenths: i16, f: &mut fmt::Formatter<W>) -> fmt::Result {
+    let sign = if tenths < 0 { "-" } else { "" };
+    let size = tenths.unsigned_abs();
+    let whole = size / 10;
+    let tenth = size % 10;
+    write!(f, "{sign}{whole}.{tenth} dBm")
+}
+
+/// A tile by its place and its plan, and the first words of its unit. All of its samples have the level of the first.
+fn show_tile<W: fmt::Write>(
+    tile: &Tile,
+    unit: &[u64; 32],
+    f: &mut fmt::Formatter<W>,
+) -> fmt::Result {
+    let column = tile.column();
+    let row = tile.row();
+    let plan = tile.plan();
+    write!(
+        f,
+        "the tile at column {column}, row {row} of plan {plan}, every sample at "
+    )?;
+    show_level(tile.level(0).unwrap_or(0), f)?;
+    let [kind, first, second, third, levels, ..] = unit;
+    write!(
+        f,
+        ", written as a unit of 256 bytes (words {kind}, {first}, {second}, {third}, {levels:#x}, ..)"
+    )
+}
+
+/// A mast by its number and its name, and the first words of its unit.
+fn show_mast<W: fmt::Write>(
+    mast: &Mast,
+    unit: &[u64; 32],
+    f: &mut fmt::Formatter<W>,
+) -> fmt::Result {
+    let number = mast.number();
+    write!(f, "mast {number} \"")?;
+    for byte in mast.name() {
+        f.write_char(char::from(*byte))?;
+    }
+    let [kind, first, second, name, ..] = unit;
+    write!(
+        f,
+        "\", written as a unit of 256 bytes (words {kind}, {first}, {second}, {name:#x}, ..)"
+    )
+}
+
+/// What was done, or the number of the refusal and why.
+fn show_answer<W: fmt::Write>(answer: &Answer, f: &mut fmt::Formatter<W>) -> fmt::Result {
+    let code = answer.code();
+    match answer {
+        Answer::Done { number, trip } => {
+            write!(f, "record {number} is ")?;
+            match &trip.back {
+                Joined::Tile(tile) => show_tile(tile, &trip.unit, f)?,
+                Joined::Mast(mast) => show_mast(mast, &trip.unit, f)?,
+            }
+            write!(f, " and read back the same")
+        }
+        Answer::Refused(why) => {
+            let words = reason(*why);
+            write!(f, "refused {code}: {words}")
+        }
+        Answer::Unknown => write!(f, "refused {code}: not a line that I know"),
+        Answer::TooLong => write!(f, "refused {code}: more than 65536 bytes"),
+    }
+}
+
+/// An answer, to be printed.
+#[derive(Clone, Copy)]
+pub struct InWords<'a> {
+    pub answer: &'a Answer,
+}
+
+impl fmt::Display for InWords<'_> {
+    fn fmt<W: fmt::Write>(&self, f: &mut fmt::Formatter<W>) -> fmt::Result {
+        show_answer(self.answer, f)
+    }
+}
+
+/// A refusal, to be printed: its number, why, and the place where a ring is unsound.
+#[derive(Clone, Copy)]
+pub struct InShort {
+    pub why: Refusal,
+}
+
+impl fmt::Display for InShort {
+    fn fmt<W: fmt::Write>(&self, f: &mut fmt::Formatter<W>) -> fmt::Result {
+        let code = self.why.number();
+        let words = reason(self.why);
+        write!(f, "refused {code}: {words}")?;
+        if let Refusal::UnsoundRing(place) = self.why {
+            write!(f, " at place {place}")?;
+        }
+        Ok(())
+    }
+}

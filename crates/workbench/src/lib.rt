@@ -1,0 +1,6 @@
+//! The workbench: what a line of input asks for, and what was done about it.
+pub mod answer;
+pub mod order;
+pub mod perform;
+pub mod read;
+pub mod write;
