@@ -11,10 +11,10 @@ loop-k-init g c = loop_none _ _
 
 pub loop-k-preserved : goal.loop-k-preserved
 loop-k-preserved g c =
-    let e : flushing (4 * (c.place-after.result + 1)) 4 ≡ flushing (4 * (after c.args.places c.args.tail c.loop-k.k + 1)) 4 = cc in
-    loop_more _ c.loop-k.k c.loop-k.invariant (performed_as e c.in-ok-flush-lines.ensures)
+    let e : flushing (4 * (c.place_after.result + 1)) 4 ≡ flushing (4 * (after c.args.places c.args.tail c.loop-k.k + 1)) 4 = cc in
+    loop_more _ c.loop-k.k c.loop-k.invariant (performed_as e c.in_ok-flush_lines.ensures)
 
-pub returns-in-err-flush-lines : goal.returns-in-err-flush-lines
-returns-in-err-flush-lines g c =
-    let e : flushing (4 * (c.place-after.result + 1)) 4 ≡ flushing (4 * (after c.args.places c.args.tail c.loop-k.k + 1)) 4 = cc in
-    broken _ c.from-residual.ensures.1 (loop_stops _ c.loop-k.k _ c.loop-k-test.true c.loop-k.invariant (halted_as e c.in-err-flush-lines.ensures))
+pub returns-in_err-flush_lines : goal.returns-in_err-flush_lines
+returns-in_err-flush_lines g c =
+    let e : flushing (4 * (c.place_after.result + 1)) 4 ≡ flushing (4 * (after c.args.places c.args.tail c.loop-k.k + 1)) 4 = cc in
+    broken _ c.from_residual.ensures.1 (loop_stops _ c.loop-k.k _ c.loop-k-test.true c.loop-k.invariant (halted_as e c.in_err-flush_lines.ensures))

@@ -13,15 +13,15 @@ loop-k-init g c = loop_none _ _
 
 pub loop-k-preserved : goal.loop-k-preserved
 loop-k-preserved g c =
-    let e : storing (32 * (c.place-after.result + 1)) c.place-words-words.result ≡ storing (32 * (after c.args.places c.args.tail c.loop-k.k + 1)) (get_or (units_of c.args.settings.now) c.loop-k.k []) = cc in
-    loop_more _ c.loop-k.k c.loop-k.invariant (performed_as e c.in-ok-store-place.ensures)
+    let e : storing (32 * (c.place_after.result + 1)) c.place_words-words.result ≡ storing (32 * (after c.args.places c.args.tail c.loop-k.k + 1)) (get_or (units_of c.args.settings.now) c.loop-k.k []) = cc in
+    loop_more _ c.loop-k.k c.loop-k.invariant (performed_as e c.in_ok-store_place.ensures)
 
-pub returns-in-err-store-place : goal.returns-in-err-store-place
-returns-in-err-store-place g c =
-    let e : storing (32 * (c.place-after.result + 1)) c.place-words-words.result ≡ storing (32 * (after c.args.places c.args.tail c.loop-k.k + 1)) (get_or (units_of c.args.settings.now) c.loop-k.k []) = cc in
+pub returns-in_err-store_place : goal.returns-in_err-store_place
+returns-in_err-store_place g c =
+    let e : storing (32 * (c.place_after.result + 1)) c.place_words-words.result ≡ storing (32 * (after c.args.places c.args.tail c.loop-k.k + 1)) (get_or (units_of c.args.settings.now) c.loop-k.k []) = cc in
     let long = units_of_long c.args.settings.now in
     let turn : c.loop-k.k < length (units_of c.args.settings.now) = omega (arith, long) in
-    broken _ c.from-residual.ensures.1 (loop_stops _ c.loop-k.k _ turn c.loop-k.invariant (halted_as e c.in-err-store-place.ensures))
+    broken _ c.from_residual.ensures.1 (loop_stops _ c.loop-k.k _ turn c.loop-k.invariant (halted_as e c.in_err-store_place.ensures))
 
 pub returns : goal.returns
 returns g c =

@@ -3,15 +3,15 @@ use Rattle.crash.proofs.Runs.{performed_one, stopped_one, stopped_first, stopped
 use Rattle.acting.proofs.Running.{acted, broken, at_last}
 use Rattle.acting.proofs.memory.seal.Goals as goal
 
-pub returns-in-err-store : goal.returns-in-err-store
-returns-in-err-store g c = broken _ c.from-residual.ensures.1 (stopped_first _ (stopped_one c.in-err-store.ensures))
+pub returns-in_err-store : goal.returns-in_err-store
+returns-in_err-store g c = broken _ c.from_residual.ensures.1 (stopped_first _ (stopped_one c.in_err-store.ensures))
 
-pub returns-in-err-flush : goal.returns-in-err-flush
-returns-in-err-flush g c =
-    broken _ c.from-residual-in-err-flush.ensures.1
-    (stopped_second (performed_one c.in-ok-store.ensures) (stopped_first _ (stopped_one c.in-err-flush.ensures)))
+pub returns-in_err-flush : goal.returns-in_err-flush
+returns-in_err-flush g c =
+    broken _ c.from_residual-in_err-flush.ensures.1
+    (stopped_second (performed_one c.in_ok-store.ensures) (stopped_first _ (stopped_one c.in_err-flush.ensures)))
 
 pub returns : goal.returns
 returns g c =
     let r = c.fence.result in
-    at_last _ _ r (performed_one c.in-ok-store.ensures) (at_last _ _ r (performed_one c.in-ok-flush.ensures) (acted nvm_rules _ _ _ r c.fence.ensures))
+    at_last _ _ r (performed_one c.in_ok-store.ensures) (at_last _ _ r (performed_one c.in_ok-flush.ensures) (acted nvm_rules _ _ _ r c.fence.ensures))

@@ -7,8 +7,8 @@ pub loop-i-init : goal.loop-i-init
 loop-i-init g c = loop_none _ _
 
 pub loop-i-preserved : goal.loop-i-preserved
-loop-i-preserved g c = loop_more _ c.loop-i.i c.loop-i.invariant (performed_one c.in-ok-store.ensures)
+loop-i-preserved g c = loop_more _ c.loop-i.i c.loop-i.invariant (performed_one c.in_ok-store.ensures)
 
-pub returns-in-err-store : goal.returns-in-err-store
-returns-in-err-store g c =
-    broken _ c.from-residual.ensures.1 (loop_stops _ c.loop-i.i _ (omega arith) c.loop-i.invariant (stopped_one c.in-err-store.ensures))
+pub returns-in_err-store : goal.returns-in_err-store
+returns-in_err-store g c =
+    broken _ c.from_residual.ensures.1 (loop_stops _ c.loop-i.i _ (omega arith) c.loop-i.invariant (stopped_one c.in_err-store.ensures))

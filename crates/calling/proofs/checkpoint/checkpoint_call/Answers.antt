@@ -8,19 +8,19 @@ pub returns : goal.returns
 returns g c =
     let nvm = g.N.Nvm.meaning c.args.nvm.now in
     let disk = g.D.Disk.meaning c.args.disk.now in
-    let n = g.N.Nvm.meaning c.checkpoint-devices.new.nvm in
-    let d = g.D.Disk.meaning c.checkpoint-devices.new.disk in
+    let n = g.N.Nvm.meaning c.checkpoint_devices.new.nvm in
+    let d = g.D.Disk.meaning c.checkpoint_devices.new.disk in
     let kind = kind_of g.K.RecordKind.unit g.K.RecordKind.reads in
-    let lit = sym c.is-dark.ensures ∙ c.if-is-dark.false in
-    let also = sym c.is-dark-else-is-dark.ensures ∙ c.if-is-dark-2.false in
-    let at = c.in-ok-ends.ensures in
-    let r = c.checkpoint-devices.result in
+    let lit = sym c.is_dark.ensures ∙ c.if-is_dark.false in
+    let also = sym c.is_dark-else-is_dark.ensures ∙ c.if-is_dark-2.false in
+    let at = c.in_ok-ends.ensures in
+    let r = c.checkpoint_devices.result in
     record {
       checkpoint = λ state list mounted order.
           checkpoint_stepped kind nvm disk state list lit also mounted n d r
-          (ended nvm disk state list lit also mounted order _ _ _ _ at.0 c.blocks-blocks.ensures at.1 at.2 n d r c.checkpoint-devices.ensures.ran c.checkpoint-devices.ensures.counted)
-          (count nvm disk state list lit also mounted order _ _ _ _ at.0 c.blocks-blocks.ensures at.1 at.2 n d r c.checkpoint-devices.ensures.ran c.checkpoint-devices.ensures.counted);
+          (ended nvm disk state list lit also mounted order _ _ _ _ at.0 c.blocks-blocks.ensures at.1 at.2 n d r c.checkpoint_devices.ensures.ran c.checkpoint_devices.ensures.counted)
+          (count nvm disk state list lit also mounted order _ _ _ _ at.0 c.blocks-blocks.ensures at.1 at.2 n d r c.checkpoint_devices.ensures.ran c.checkpoint_devices.ensures.counted);
       close = λ list order.
           close_stepped kind nvm disk list lit also n d r
-          (ended nvm disk Idle list lit also idle_mounted order _ _ _ _ at.0 c.blocks-blocks.ensures at.1 at.2 n d r c.checkpoint-devices.ensures.ran c.checkpoint-devices.ensures.counted);
+          (ended nvm disk Idle list lit also idle_mounted order _ _ _ _ at.0 c.blocks-blocks.ensures at.1 at.2 n d r c.checkpoint_devices.ensures.ran c.checkpoint_devices.ensures.counted);
     }

@@ -5,38 +5,38 @@ use Rattle.checkpointing.proofs.Loading.{loads_agree}
 use Rattle.calling.proofs.Asking.{carried, is_sound, why}
 use Rattle.calling.proofs.contents.check_contents.Goals as goal
 
-pub returns-in-err-check : goal.returns-in-err-check
-returns-in-err-check g c =
+pub returns-in_err-check : goal.returns-in_err-check
+returns-in_err-check g c =
     let m = g.N.Nvm.meaning c.args.nvm.now in
-    let at = c.in-ok-ends.ensures in
-    let w0 = loads_agree m 0 c.in-ok-mark.mark (sym c.in-ok-mark.ensures) in
-    let w1 = loads_agree m 1 c.in-ok-named-places.named-places (sym c.in-ok-named-places.ensures) in
-    let w2 = loads_agree m 2 c.in-ok-named-blocks.named-blocks (sym c.in-ok-named-blocks.ensures) in
-    let e0 = c.if-mark-ne-GROUND-MARK.false in
-    let e1 = c.if-named-places-places.false in
-    let e2 = c.if-named-blocks-blocks.false in
+    let at = c.in_ok-ends.ensures in
+    let w0 = loads_agree m 0 c.in_ok-mark.mark (sym c.in_ok-mark.ensures) in
+    let w1 = loads_agree m 1 c.in_ok-named_places.named_places (sym c.in_ok-named_places.ensures) in
+    let w2 = loads_agree m 2 c.in_ok-named_blocks.named_blocks (sym c.in_ok-named_blocks.ensures) in
+    let e0 = c.if-mark-ne-GROUND_MARK.false in
+    let e1 = c.if-named_places-places.false in
+    let e2 = c.if-named_blocks-blocks.false in
     let l0 = c.if-ends-places.false in
     let l1 = c.if-ends-places-2.false in
-    carried c.in-err-check.field-0.0 c.from-residual-in-err-check.result _ _ c.from-residual-in-err-check.ensures.1
-    (why m c.args.places c.args.blocks c.in-ok-ends.ends.head c.in-ok-ends.ends.tail c.in-err-check.field-0.0 c.requires.lit c.requires.size c.requires.most
-    (w0 ∙ e0) (w1 ∙ e1) (w2 ∙ e2) l0 l1 at.1 at.2 c.in-err-check.ensures)
+    carried c.in_err-check.field-0.0 c.from_residual-in_err-check.result _ _ c.from_residual-in_err-check.ensures.1
+    (why m c.args.places c.args.blocks c.in_ok-ends.ends.head c.in_ok-ends.ends.tail c.in_err-check.field-0.0 c.requires.lit c.requires.size c.requires.most
+    (w0 ∙ e0) (w1 ∙ e1) (w2 ∙ e2) l0 l1 at.1 at.2 c.in_err-check.ensures)
 
 pub returns : goal.returns
 returns g c =
     let m = g.N.Nvm.meaning c.args.nvm.now in
-    let at = c.in-ok-ends.ensures in
-    let w0 = loads_agree m 0 c.in-ok-mark.mark (sym c.in-ok-mark.ensures) in
-    let w1 = loads_agree m 1 c.in-ok-named-places.named-places (sym c.in-ok-named-places.ensures) in
-    let w2 = loads_agree m 2 c.in-ok-named-blocks.named-blocks (sym c.in-ok-named-blocks.ensures) in
-    let e0 = c.if-mark-ne-GROUND-MARK.false in
-    let e1 = c.if-named-places-places.false in
-    let e2 = c.if-named-blocks-blocks.false in
+    let at = c.in_ok-ends.ensures in
+    let w0 = loads_agree m 0 c.in_ok-mark.mark (sym c.in_ok-mark.ensures) in
+    let w1 = loads_agree m 1 c.in_ok-named_places.named_places (sym c.in_ok-named_places.ensures) in
+    let w2 = loads_agree m 2 c.in_ok-named_blocks.named_blocks (sym c.in_ok-named_blocks.ensures) in
+    let e0 = c.if-mark-ne-GROUND_MARK.false in
+    let e1 = c.if-named_places-places.false in
+    let e2 = c.if-named_blocks-blocks.false in
     let l0 = c.if-ends-places.false in
     let l1 = c.if-ends-places-2.false in
     let s = c.requires.size in
     let p = at.0 in (
       is_sound c.args.places c.args.blocks (words_of m) (w0 ∙ e0) (w1 ∙ e1) (w2 ∙ e2) (subst (λ (i : ℕ). i < c.args.places) at.1 l0) (subst (λ (i : ℕ). i < c.args.places) at.2 l1)
-          c.in-ok-ends.ends.head c.in-ok-ends.ends.tail at.1 at.2 (c.in-ok-check.ensures.1 (words_of m) (loads_agree m)),
+          c.in_ok-ends.ends.head c.in_ok-ends.ends.tail at.1 at.2 (c.in_ok-check.ensures.1 (words_of m) (loads_agree m)),
       omega (arith, s, p),
       at.1,
       at.2,

@@ -7,21 +7,21 @@ use Rattle.checkpointing.proofs.Loading.{loads_agree, loads_within, block_made}
 use Rattle.checkpointing.proofs.Looking.{read_open}
 use Rattle.checkpointing.proofs.blocks.write_block.Goals as goal
 
-pub returns-in-err-read : goal.returns-in-err-read
-returns-in-err-read g c =
-    absurd (read_open (g.D.Disk.meaning c.args.disk.now) c.args.block c.in-err-read.field-0.0 c.requires.lit.1 c.requires.inside.1 c.in-err-read.ensures.0)
+pub returns-in_err-read : goal.returns-in_err-read
+returns-in_err-read g c =
+    absurd (read_open (g.D.Disk.meaning c.args.disk.now) c.args.block c.in_err-read.field-0.0 c.requires.lit.1 c.requires.inside.1 c.in_err-read.ensures.0)
 
-pub lay-block-requires : goal.lay-block-requires
-lay-block-requires g c = (c.requires.few.0, (c.requires.few.1.0, (c.requires.few.1.1, c.requires.within)))
+pub lay_block-requires : goal.lay_block-requires
+lay_block-requires g c = (c.requires.few.0, (c.requires.few.1.0, (c.requires.few.1.1, c.requires.within)))
 
-pub returns-in-err-lay-block : goal.returns-in-err-lay-block
-returns-in-err-lay-block g c =
-    absurd (loads_within (g.N.Nvm.meaning c.args.nvm.now) (c.args.places + 1) c.in-err-lay-block.field-0.0 c.requires.lit.0 c.requires.inside.0 c.in-err-lay-block.ensures)
+pub returns-in_err-lay_block : goal.returns-in_err-lay_block
+returns-in_err-lay_block g c =
+    absurd (loads_within (g.N.Nvm.meaning c.args.nvm.now) (c.args.places + 1) c.in_err-lay_block.field-0.0 c.requires.lit.0 c.requires.inside.0 c.in_err-lay_block.ensures)
 
 pub returns : goal.returns
 returns g c =
     let n = g.N.Nvm.meaning c.args.nvm.now in
     let m = g.D.Disk.meaning c.args.disk.now in
-    let e = block_made (words_of n) (place_in c.args.numbers.now c.args.slots.now c.args.count) (sectors_of m) c.args.block c.read.new.buf c.lay-block.new.buf
-    c.in-ok-read.ensures.1 c.lay-block.array_long (c.in-ok-lay-block.ensures (words_of n) (loads_agree n)) in
+    let e = block_made (words_of n) (place_in c.args.numbers.now c.args.slots.now c.args.count) (sectors_of m) c.args.block c.read.new.buf c.lay_block.new.buf
+    c.in_ok-read.ensures.1 c.lay_block.array_long (c.in_ok-lay_block.ensures (words_of n) (loads_agree n)) in
     subst (λ (ws : List ℕ). Acted disk_rules m (Write c.args.block ws) c.write.result (g.D.Disk.meaning c.write.new.self)) e c.write.ensures

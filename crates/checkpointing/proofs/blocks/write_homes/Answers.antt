@@ -11,10 +11,10 @@ use Rattle.checkpointing.proofs.blocks.write_homes.Goals as goal
 
 pub loop-b-init : goal.loop-b-init
 loop-b-init g c = going_start c.args.numbers.now c.args.count (words_of (g.N.Nvm.meaning c.args.nvm.now)) (place_in c.args.numbers.now c.args.slots.now c.args.count)
-    (g.D.Disk.meaning c.args.disk.now) c.args.blocks c.next-block-b.result c.next-block-b.ensures
+    (g.D.Disk.meaning c.args.disk.now) c.args.blocks c.next_block-b.result c.next_block-b.ensures
 
-pub write-block-requires : goal.write-block-requires
-write-block-requires g c =
+pub write_block-requires : goal.write_block-requires
+write_block-requires g c =
     let size = c.loop-b.invariant.6 in
     let wide = c.requires.inside.1 in
     let lt = c.loop-b-test.true in
@@ -26,37 +26,37 @@ write-block-requires g c =
       within = c.requires.within;
     }
 
-pub returns-in-err-write-block : goal.returns-in-err-write-block
-returns-in-err-write-block g c = record {
-  ran = ran_broken (Performs disk_rules) (Refuses disk_rules) _ c.from-residual.result c.from-residual.ensures.1
+pub returns-in_err-write_block : goal.returns-in_err-write_block
+returns-in_err-write_block g c = record {
+  ran = ran_broken (Performs disk_rules) (Refuses disk_rules) _ c.from_residual.result c.from_residual.ensures.1
       (going_broken c.args.numbers.now c.args.count (words_of (g.N.Nvm.meaning c.args.nvm.now)) (place_in c.args.numbers.now c.args.slots.now c.args.count)
       (g.D.Disk.meaning c.args.disk.now) c.args.blocks c.loop-b.b c.loop-b.written
-      (g.D.Disk.meaning c.loop-b.disk) (g.D.Disk.meaning c.write-block.new.disk) c.in-err-write-block.field-0.0 c.loop-b.invariant c.loop-b-test.true c.in-err-write-block.ensures);
-  counted = no_count c.in-err-write-block.field-0.0 c.from-residual.result _ c.from-residual.ensures.1;
+      (g.D.Disk.meaning c.loop-b.disk) (g.D.Disk.meaning c.write_block.new.disk) c.in_err-write_block.field-0.0 c.loop-b.invariant c.loop-b-test.true c.in_err-write_block.ensures);
+  counted = no_count c.in_err-write_block.field-0.0 c.from_residual.result _ c.from_residual.ensures.1;
 }
 
 pub loop-b-preserved : goal.loop-b-preserved
 loop-b-preserved g c =
     going_on c.args.numbers.now c.args.count (words_of (g.N.Nvm.meaning c.args.nvm.now)) (place_in c.args.numbers.now c.args.slots.now c.args.count)
     (g.D.Disk.meaning c.args.disk.now) c.args.blocks c.loop-b.b c.loop-b.written
-    (g.D.Disk.meaning c.loop-b.disk) (g.D.Disk.meaning c.write-block.new.disk) c.next-block-b-in-loop-b.result c.loop-b.invariant c.loop-b-test.true
-    c.in-ok-write-block.ensures c.next-block-b-in-loop-b.ensures
+    (g.D.Disk.meaning c.loop-b.disk) (g.D.Disk.meaning c.write_block.new.disk) c.next_block-b-in-loop-b.result c.loop-b.invariant c.loop-b-test.true
+    c.in_ok-write_block.ensures c.next_block-b-in-loop-b.ensures
 
 pub loop-b-smaller : goal.loop-b-smaller
-loop-b-smaller g c = next_falls c.args.numbers.now c.args.count c.loop-b.b c.args.blocks c.next-block-b-in-loop-b.result c.loop-b-test.true c.next-block-b-in-loop-b.ensures
+loop-b-smaller g c = next_falls c.args.numbers.now c.args.count c.loop-b.b c.args.blocks c.next_block-b-in-loop-b.result c.loop-b-test.true c.next_block-b-in-loop-b.ensures
 
-pub returns-in-err-sync : goal.returns-in-err-sync
-returns-in-err-sync g c = record {
-  ran = ran_broken (Performs disk_rules) (Refuses disk_rules) _ c.from-residual-in-err-sync.result c.from-residual-in-err-sync.ensures.1
+pub returns-in_err-sync : goal.returns-in_err-sync
+returns-in_err-sync g c = record {
+  ran = ran_broken (Performs disk_rules) (Refuses disk_rules) _ c.from_residual-in_err-sync.result c.from_residual-in_err-sync.ensures.1
       (going_cut c.args.numbers.now c.args.count (words_of (g.N.Nvm.meaning c.args.nvm.now)) (place_in c.args.numbers.now c.args.slots.now c.args.count)
       (g.D.Disk.meaning c.args.disk.now) c.args.blocks c.loop-b.b c.loop-b.written
-      (g.D.Disk.meaning c.loop-b.disk) (g.D.Disk.meaning c.sync.new.self) c.in-err-sync.field-0.0 c.loop-b.invariant c.loop-b-test.false c.in-err-sync.ensures);
-  counted = no_count c.in-err-sync.field-0.0 c.from-residual-in-err-sync.result _ c.from-residual-in-err-sync.ensures.1;
+      (g.D.Disk.meaning c.loop-b.disk) (g.D.Disk.meaning c.sync.new.self) c.in_err-sync.field-0.0 c.loop-b.invariant c.loop-b-test.false c.in_err-sync.ensures);
+  counted = no_count c.in_err-sync.field-0.0 c.from_residual-in_err-sync.result _ c.from_residual-in_err-sync.ensures.1;
 }
 
 pub returns : goal.returns
 returns g c =
     let (ran, counted) = going_end c.args.numbers.now c.args.count (words_of (g.N.Nvm.meaning c.args.nvm.now)) (place_in c.args.numbers.now c.args.slots.now c.args.count)
     (g.D.Disk.meaning c.args.disk.now) c.args.blocks c.loop-b.b c.loop-b.written
-    (g.D.Disk.meaning c.loop-b.disk) (g.D.Disk.meaning c.sync.new.self) c.loop-b.invariant c.loop-b-test.false c.in-ok-sync.ensures in
+    (g.D.Disk.meaning c.loop-b.disk) (g.D.Disk.meaning c.sync.new.self) c.loop-b.invariant c.loop-b-test.false c.in_ok-sync.ensures in
     record { ran = ran; counted = counted }

@@ -12,8 +12,8 @@ pub loop-i-preserved : goal.loop-i-preserved
 loop-i-preserved c =
     let long = c.told-info in
     added_on c.args.numbers.now c.args.slots.now c.args.info.now c.args.count (λ k. before c.args.places c.args.place (taken c.args.n - k))
-    c.loop-i.i c.place-before.result c.loop-i.numbers c.loop-i.slots (omega arith) (omega arith)
-    (c.place-before.ensures ∙ ap (λ t. before c.args.places c.args.place (t - c.loop-i.i)) c.places-taken-taken.ensures) c.loop-i.invariant
+    c.loop-i.i c.place_before.result c.loop-i.numbers c.loop-i.slots (omega arith) (omega arith)
+    (c.place_before.ensures ∙ ap (λ t. before c.args.places c.args.place (t - c.loop-i.i)) c.places_taken-taken.ensures) c.loop-i.invariant
 
 pub returns : goal.returns
 returns c r =

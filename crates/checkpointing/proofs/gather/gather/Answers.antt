@@ -11,19 +11,19 @@ pub loop-left-init : goal.loop-left-init
 loop-left-init g c =
     let i = ring c.args.places c.args.head c.args.tail c.requires in
     let u = used_below c.args.places c.args.head c.args.tail i.tail_in in
-    let e = c.used-between-left.ensures in
+    let e = c.used_between-left.ensures in
     let m = i.most in (
       i.tail_in,
       omega arith,
       omega arith,
       (λ d a. ([], ap (λ k. stepping_back c.args.places c.args.blocks d k c.args.tail k []) (sym e))),
-      gathered_none (g.S.Source.reads c.args.source.now) c.args.places c.args.blocks c.args.head c.args.tail c.args.numbers.now c.args.slots.now c.used-between-left.result e,
+      gathered_none (g.S.Source.reads c.args.source.now) c.args.places c.args.blocks c.args.head c.args.tail c.args.numbers.now c.args.slots.now c.used_between-left.result e,
     )
 
 pub loop-left-preserved : goal.loop-left-preserved
 loop-left-preserved g c =
-    let s = c.in-ok-step.step in
-    let st = c.in-ok-step.ensures in
+    let s = c.in_ok-step.step in
+    let st = c.in_ok-step.ensures in
     let k = stays (g.S.Source.reads c.args.source.now) c.args.places c.args.blocks c.loop-left.place c.loop-left.left s st c.loop-left.invariant.0 c.loop-left.invariant.1 in
     let t = step_takes (g.S.Source.reads c.args.source.now) c.args.places c.args.blocks c.loop-left.place c.loop-left.left s st in
     let room = c.loop-left.invariant.2 in (
@@ -31,24 +31,24 @@ loop-left-preserved g c =
       k.1,
       omega (arith, t.3, room),
       came_on (g.S.Source.reads c.args.source.now) c.args.places c.args.blocks c.args.head c.args.tail c.loop-left.place c.loop-left.left s st c.loop-left-test.true c.loop-left.invariant.3,
-      gathered_on (g.S.Source.reads c.args.source.now) c.args.places c.args.blocks c.args.head c.args.tail c.loop-left.numbers c.loop-left.slots c.add-rows.new.numbers c.add-rows.new.slots
-          c.loop-left.count c.loop-left.place c.loop-left.left s st c.loop-left-test.true s.count refl c.loop-left.invariant.4 c.add-rows.ensures,
+      gathered_on (g.S.Source.reads c.args.source.now) c.args.places c.args.blocks c.args.head c.args.tail c.loop-left.numbers c.loop-left.slots c.add_rows.new.numbers c.add_rows.new.slots
+          c.loop-left.count c.loop-left.place c.loop-left.left s st c.loop-left-test.true s.count refl c.loop-left.invariant.4 c.add_rows.ensures,
     )
 
 pub loop-left-smaller : goal.loop-left-smaller
-loop-left-smaller g c = falls (g.S.Source.reads c.args.source.now) c.args.places c.args.blocks c.loop-left.place c.loop-left.left c.in-ok-step.step c.in-ok-step.ensures c.loop-left-test.true
+loop-left-smaller g c = falls (g.S.Source.reads c.args.source.now) c.args.places c.args.blocks c.loop-left.place c.loop-left.left c.in_ok-step.step c.in_ok-step.ensures c.loop-left-test.true
 
-pub add-rows-requires : goal.add-rows-requires
-add-rows-requires g c =
-    let t = step_takes (g.S.Source.reads c.args.source.now) c.args.places c.args.blocks c.loop-left.place c.loop-left.left c.in-ok-step.step c.in-ok-step.ensures in
+pub add_rows-requires : goal.add_rows-requires
+add_rows-requires g c =
+    let t = step_takes (g.S.Source.reads c.args.source.now) c.args.places c.args.blocks c.loop-left.place c.loop-left.left c.in_ok-step.step c.in_ok-step.ensures in
     let room = c.loop-left.invariant.2 in
     let less = c.loop-left.invariant.1 in
     (c.loop-left.invariant.0, (t.1, (omega (arith, t.2, less), omega (arith, t.2, room))))
 
-pub returns-in-err-step : goal.returns-in-err-step
-returns-in-err-step g c = let p = err_from_is_err_and c.from-residual.result c.from-residual.ensures.1 in rw (p.1, p.2)
+pub returns-in_err-step : goal.returns-in_err-step
+returns-in_err-step g c = let p = err_from_is_err_and c.from_residual.result c.from_residual.ensures.1 in rw (p.1, p.2)
     (came_short (g.S.Source.reads c.args.source.now) c.args.places c.args.blocks c.args.head c.args.tail c.loop-left.place c.loop-left.left
-    c.in-err-step.field-0.0 c.requires c.loop-left-test.true c.loop-left.invariant.3 c.in-err-step.ensures)
+    c.in_err-step.field-0.0 c.requires c.loop-left-test.true c.loop-left.invariant.3 c.in_err-step.ensures)
 
 pub returns : goal.returns
 returns g c = (

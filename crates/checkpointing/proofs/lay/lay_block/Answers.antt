@@ -4,7 +4,7 @@ use Rattle.ring.proofs.Listing.{wider}
 use Rattle.checkpointing.specs.Rows.{place_in}
 use Rattle.checkpointing.proofs.Laying.{Laid, laid_none, laid_passed, laid_here}
 use Rattle.checkpointing.proofs.lay.lay_block.Goals as goal
-use Rattle.checkpointing.proofs.lay.lay_block.Goals.{in-Some+in-ok-words, in-default}
+use Rattle.checkpointing.proofs.lay.lay_block.Goals.{in-Some+in-ok-words, in_default}
 
 pub loop-i-init : goal.loop-i-init
 loop-i-init g c = laid_none (g.S.Source.reads c.args.source.now) (place_in c.args.numbers.now c.args.slots.now c.args.count) c.args.block c.args.buf.now c.told-buf
@@ -14,34 +14,34 @@ loop-i-preserved g c =
     let reads = g.S.Source.reads c.args.source.now in
     let place = place_in c.args.numbers.now c.args.slots.now c.args.count in
     let P : List ℕ → Type 0 = Laid reads place c.args.block c.args.buf.now (c.loop-i.i + 1) in
-    elim c.match-place-of.branch [
+    elim c.match-place_of.branch [
       | in-Some+in-ok-words w ↦ subst P (sym w.buf-is)
-          (laid_here reads place c.args.block c.args.buf.now c.loop-i.i w.in-Some.place w.in-ok-words.words c.loop-i.buf w.fill.new.image
-          (sym c.place-of.ensures ∙ w.in-Some.is) w.in-ok-words.ensures w.fill.ensures c.loop-i.invariant)
-      | in-default w ↦ subst P (sym w.buf-is)
-          (laid_passed reads place c.args.block c.args.buf.now c.loop-i.i c.loop-i.buf (sym c.place-of.ensures ∙ w.in-default.is) c.loop-i.invariant)
+          (laid_here reads place c.args.block c.args.buf.now c.loop-i.i w.in-Some.place w.in_ok-words.words c.loop-i.buf w.fill.new.image
+          (sym c.place_of.ensures ∙ w.in-Some.is) w.in_ok-words.ensures w.fill.ensures c.loop-i.invariant)
+      | in_default w ↦ subst P (sym w.buf-is)
+          (laid_passed reads place c.args.block c.args.buf.now c.loop-i.i c.loop-i.buf (sym c.place_of.ensures ∙ w.in_default.is) c.loop-i.invariant)
     ]
 
-pub overflow-add-place : goal.overflow-add-place
-overflow-add-place g c =
-    let b = c.requires.1.1.1 _ c.in-Some.place (sym c.place-of.ensures ∙ c.in-Some.is) in
+pub overflow_add-place : goal.overflow_add-place
+overflow_add-place g c =
+    let b = c.requires.1.1.1 _ c.in-Some.place (sym c.place_of.ensures ∙ c.in-Some.is) in
     let m = c.requires.1.0 in
     omega (arith, b, m)
 
-pub load-unit-requires : goal.load-unit-requires
-load-unit-requires g c =
-    let b = c.requires.1.1.1 _ c.in-Some.place (sym c.place-of.ensures ∙ c.in-Some.is) in
+pub load_unit-requires : goal.load_unit-requires
+load_unit-requires g c =
+    let b = c.requires.1.1.1 _ c.in-Some.place (sym c.place_of.ensures ∙ c.in-Some.is) in
     let m = c.requires.1.0 in
     omega (arith, b, m)
 
 pub fill-requires : goal.fill-requires
 fill-requires g c = let l = c.loop-i.invariant.0 in (omega arith, omega arith)
 
-pub returns-in-err-words : goal.returns-in-err-words
-returns-in-err-words g c =
-    let b = c.requires.1.1.1 _ c.in-Some.place (sym c.place-of.ensures ∙ c.in-Some.is) in
-    let p = err_from_is_err_and c.from-residual.result c.from-residual.ensures.1 in
-    rw (p.1, p.2) (wider (g.S.Source.reads c.args.source.now) (c.in-Some.place + 1 + 1) (c.args.places + 1) c.in-err-words.field-0.0 (omega (arith, b)) c.in-err-words.ensures)
+pub returns-in_err-words : goal.returns-in_err-words
+returns-in_err-words g c =
+    let b = c.requires.1.1.1 _ c.in-Some.place (sym c.place_of.ensures ∙ c.in-Some.is) in
+    let p = err_from_is_err_and c.from_residual.result c.from_residual.ensures.1 in
+    rw (p.1, p.2) (wider (g.S.Source.reads c.args.source.now) (c.in-Some.place + 1 + 1) (c.args.places + 1) c.in_err-words.field-0.0 (omega (arith, b)) c.in_err-words.ensures)
 
 pub returns : goal.returns
 returns g c d a k lt = c.loop-i.invariant.1 d a k (omega arith)

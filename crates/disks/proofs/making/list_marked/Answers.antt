@@ -8,7 +8,7 @@ use Rattle.simulated.proofs.Members.{no_true, member_with}
 use Rattle.simulated.proofs.Flags.{flag_within}
 use Rattle.disks.specs.Parts.{none_waits}
 use Rattle.disks.proofs.making.list_marked.Goals as goal
-use Rattle.disks.proofs.making.list_marked.Goals.{then-any-waits, else-any-waits}
+use Rattle.disks.proofs.making.list_marked.Goals.{then-any_waits, else-any_waits}
 
 abbrev Listed : List Bool → ℕ → ℕ → Pending → Type 0
 Listed ms size b p = (p.size ≡ size) × ((s : ℕ) → s / 8 < b → get_or ms s false ≡ true → member (s / 8) (lines_of p) ≡ true)
@@ -36,9 +36,9 @@ loop-block-preserved c =
     let ms = c.args.waiting.now in
     let size = c.args.pending.now.size in
     let b = c.loop-block.block in
-    elim c.if-any-waits.branch [
-      | then-any-waits w ↦ subst (Listed ms size (b + 1)) (sym w.pending-is) (added ms size b c.loop-block.pending w.add.new.self c.loop-block.invariant w.add.ensures.size w.add.ensures.lines)
-      | else-any-waits w ↦ subst (Listed ms size (b + 1)) (sym w.pending-is) (passed ms size b c.loop-block.pending c.loop-block.invariant (sym c.any-waits.ensures ∙ w.if-any-waits.false))
+    elim c.if-any_waits.branch [
+      | then-any_waits w ↦ subst (Listed ms size (b + 1)) (sym w.pending-is) (added ms size b c.loop-block.pending w.add.new.self c.loop-block.invariant w.add.ensures.size w.add.ensures.lines)
+      | else-any_waits w ↦ subst (Listed ms size (b + 1)) (sym w.pending-is) (passed ms size b c.loop-block.pending c.loop-block.invariant (sym c.any_waits.ensures ∙ w.if-any_waits.false))
     ]
 
 pub returns : goal.returns

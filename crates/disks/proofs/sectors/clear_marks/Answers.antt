@@ -18,7 +18,7 @@ loop-i-preserved c s =
     let i = c.loop-i.i in
     let b = get_or queue i 0 in
     let base = get_or c.args.waiting.now s false in
-    c.set-marks.ensures s ∙ ap (λ t. cond t false (get_or c.loop-i.waiting s false)) (in_block b s)
+    c.set_marks.ensures s ∙ ap (λ t. cond t false (get_or c.loop-i.waiting s false)) (in_block b s)
     ∙ grown (member (s / 8) (take i queue)) (eqb (s / 8) b) false base (get_or c.loop-i.waiting s false) (c.loop-i.invariant s) ∙ ap (λ t. cond t false base) (member_more (s / 8) queue i (omega arith))
 
 pub returns : goal.returns

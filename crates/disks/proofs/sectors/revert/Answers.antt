@@ -16,7 +16,7 @@ loop-i-preserved c w =
     let p = goes_back c.args.waiting.now c.args.how.now (w / 64) in
     let old = get_or c.args.settled.now w 0 in
     let base = get_or c.args.present.now w 0 in
-    c.revert-block.ensures w ∙ grown_by (member (w / 512) (take i queue)) (eqb (w / 512) (get_or queue i 0)) p old base (get_or c.loop-i.present w 0) (c.loop-i.invariant w)
+    c.revert_block.ensures w ∙ grown_by (member (w / 512) (take i queue)) (eqb (w / 512) (get_or queue i 0)) p old base (get_or c.loop-i.present w 0) (c.loop-i.invariant w)
     ∙ ap (λ t. cond (t && p) old base) (member_more (w / 512) queue i (omega arith))
 
 pub returns : goal.returns

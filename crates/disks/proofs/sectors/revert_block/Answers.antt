@@ -5,7 +5,7 @@ use Rattle.simulated.specs.Lists.{inside}
 use Rattle.disks.specs.Rows.{goes_back}
 use Rattle.disks.proofs.Regions.{grown_by}
 use Rattle.disks.proofs.sectors.revert_block.Goals as goal
-use Rattle.disks.proofs.sectors.revert_block.Goals.{then-goes-back, else-goes-back}
+use Rattle.disks.proofs.sectors.revert_block.Goals.{then-goes_back, else-goes_back}
 
 -- a test at the place itself
 at_place : (p : ℕ → Bool) (s t : ℕ) (x : Bool) → p t ≡ x → (eqb s t && x) ≡ (eqb s t && p s)
@@ -44,10 +44,10 @@ loop-k-preserved c w =
     let old = get_or c.args.settled.now w 0 in
     let base = get_or c.args.present.now w 0 in
     let z = get_or c.loop-k.present w 0 in
-    elim c.if-goes-back.branch [
-      | then-goes-back v ↦ step p b k (w / 64) old base z _ true (sym c.goes-back.ensures ∙ v.if-goes-back.true) (c.loop-k.invariant w)
-          (ap (λ (xs : List ℕ). get_or xs w 0) v.present-is ∙ v.revert-sector.ensures w ∙ ap (λ t. cond t old z) (and_true (eqb (w / 64) (8 * b + k))))
-      | else-goes-back v ↦ step p b k (w / 64) old base z _ false (sym c.goes-back.ensures ∙ v.if-goes-back.false) (c.loop-k.invariant w)
+    elim c.if-goes_back.branch [
+      | then-goes_back v ↦ step p b k (w / 64) old base z _ true (sym c.goes_back.ensures ∙ v.if-goes_back.true) (c.loop-k.invariant w)
+          (ap (λ (xs : List ℕ). get_or xs w 0) v.present-is ∙ v.revert_sector.ensures w ∙ ap (λ t. cond t old z) (and_true (eqb (w / 64) (8 * b + k))))
+      | else-goes_back v ↦ step p b k (w / 64) old base z _ false (sym c.goes_back.ensures ∙ v.if-goes_back.false) (c.loop-k.invariant w)
           (ap (λ (xs : List ℕ). get_or xs w 0) v.present-is ∙ ap (λ t. cond t old z) (and_false (eqb (w / 64) (8 * b + k))))
     ]
 

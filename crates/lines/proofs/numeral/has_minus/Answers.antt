@@ -3,10 +3,10 @@ use Rattle.std.proofs.lemmas.List.{nil_from_length}
 use Rattle.std.proofs.lemmas.Bool.{eqb-true, both_ways}
 use Rattle.lines.proofs.numeral.has_minus.Goals as goal
 
-pub returns-else-not-is-empty : goal.returns-else-not-is-empty
-returns-else-not-is-empty c =
-    let gone = ap not c.if-not-is-empty.false in
+pub returns-else-not-is_empty : goal.returns-else-not-is_empty
+returns-else-not-is_empty c =
+    let gone = ap not c.if-not-is_empty.false in
     record {
-      minus = gone ∙ sym (ap (λ ds. eqb (get_or ds 0 0) 45) (nil_from_length c.args.text.now (eqb-true _ _ (sym c.if-not-is-empty.ensures))));
-      some = λ e. absurd (both_ways (not c.is-empty.result) gone e);
+      minus = gone ∙ sym (ap (λ ds. eqb (get_or ds 0 0) 45) (nil_from_length c.args.text.now (eqb-true _ _ (sym c.if-not-is_empty.ensures))));
+      some = λ e. absurd (both_ways (not c.is_empty.result) gone e);
     }

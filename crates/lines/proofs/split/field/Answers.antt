@@ -9,17 +9,17 @@ loop-passed-init c = (omega arith, ahead_start (fields_of c.args.line.now))
 
 pub loop-passed-preserved : goal.loop-passed-preserved
 loop-passed-preserved c =
-    let lt : c.find-mark-end.result < length c.loop-passed.rest.now = omega arith in
-    let shorter : length (behind c.loop-passed.rest.now (c.find-mark-end.result + 1)) ≤ length c.args.line.now = simp (take_rest, length-drop) (omega arith) in
-    (shorter, ahead_on _ _ _ _ _ c.loop-passed.invariant.1 (cut_found 9 ([] ∷ []) c.loop-passed.rest.now c.find-mark-end.result lt c.find-mark-end.ensures.before (c.find-mark-end.ensures.found lt)))
+    let lt : c.find_mark-end.result < length c.loop-passed.rest.now = omega arith in
+    let shorter : length (behind c.loop-passed.rest.now (c.find_mark-end.result + 1)) ≤ length c.args.line.now = simp (take_rest, length-drop) (omega arith) in
+    (shorter, ahead_on _ _ _ _ _ c.loop-passed.invariant.1 (cut_found 9 ([] ∷ []) c.loop-passed.rest.now c.find_mark-end.result lt c.find_mark-end.ensures.before (c.find_mark-end.ensures.found lt)))
 
 pub returns-then-end-rest : goal.returns-then-end-rest
 returns-then-end-rest c =
-    ahead_none _ _ _ _ _ c.loop-passed.invariant.1 (field_last c.loop-passed.rest.now c.find-mark-end.result c.if-end-rest.true c.find-mark-end.ensures.before) c.loop-passed-test.true
+    ahead_none _ _ _ _ _ c.loop-passed.invariant.1 (field_last c.loop-passed.rest.now c.find_mark-end.result c.if-end-rest.true c.find_mark-end.ensures.before) c.loop-passed-test.true
 
 pub returns : goal.returns
 returns c =
-    ahead_here _ _ _ _ _ c.loop-passed.invariant.1 (omega arith) (field_first c.loop-passed.rest.now c.find-mark-end-2.result c.find-mark-end-2.ensures.within c.find-mark-end-2.ensures.before c.find-mark-end-2.ensures.found)
+    ahead_here _ _ _ _ _ c.loop-passed.invariant.1 (omega arith) (field_first c.loop-passed.rest.now c.find_mark-end-2.result c.find_mark-end-2.ensures.within c.find_mark-end-2.ensures.before c.find_mark-end-2.ensures.found)
 
-pub overflow-add-rest : goal.overflow-add-rest
-overflow-add-rest c = omega arith
+pub overflow_add-rest : goal.overflow_add-rest
+overflow_add-rest c = omega arith

@@ -10,5 +10,5 @@ returns c =
     let name : List ℕ = c.args.bytes.now in
     let j : ℕ = c.args.k * 8 in
     let first : j ≡ j + 0 = omega arith in
-    c.from-le-bytes.ensures
+    c.from_le_bytes.ensures
     ∙ summed (byte_of name j) (byte_of name (j + 0)) (byte_of name (j + 1)) (byte_of name (j + 2)) (byte_of name (j + 3)) (byte_of name (j + 4)) (byte_of name (j + 5)) (byte_of name (j + 6)) (byte_of name (j + 7)) (ap (byte_of name) first)

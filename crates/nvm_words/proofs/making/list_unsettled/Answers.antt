@@ -4,19 +4,19 @@ use Rattle.simulated.specs.Listing.{lines_of}
 use Rattle.nvm_words.specs.Marks.{any_marked}
 use Rattle.nvm_words.proofs.Counted.{listed_yes, listed_no}
 use Rattle.nvm_words.proofs.making.list_unsettled.Goals as goal
-use Rattle.nvm_words.proofs.making.list_unsettled.Goals.{then-any-unsettled, else-any-unsettled}
+use Rattle.nvm_words.proofs.making.list_unsettled.Goals.{then-any_unsettled, else-any_unsettled}
 
 pub loop-line-preserved : goal.loop-line-preserved
 loop-line-preserved c =
     let step = c.loop-line in
     let p = any_marked c.args.marks.now in
-    elim c.if-any-unsettled.branch [
-      | then-any-unsettled w ↦ (
+    elim c.if-any_unsettled.branch [
+      | then-any_unsettled w ↦ (
         ap (λ (x : Pending). x.size) w.pending-is ∙ w.add.ensures.size ∙ step.invariant.0,
-        ap lines_of w.pending-is ∙ w.add.ensures.lines ∙ listed_yes p step.line (lines_of step.pending) step.invariant.1 (sym c.any-unsettled.ensures ∙ w.if-any-unsettled.true),
+        ap lines_of w.pending-is ∙ w.add.ensures.lines ∙ listed_yes p step.line (lines_of step.pending) step.invariant.1 (sym c.any_unsettled.ensures ∙ w.if-any_unsettled.true),
       )
-      | else-any-unsettled w ↦ (
+      | else-any_unsettled w ↦ (
         ap (λ (x : Pending). x.size) w.pending-is ∙ step.invariant.0,
-        ap lines_of w.pending-is ∙ listed_no p step.line (lines_of step.pending) step.invariant.1 (sym c.any-unsettled.ensures ∙ w.if-any-unsettled.false),
+        ap lines_of w.pending-is ∙ listed_no p step.line (lines_of step.pending) step.invariant.1 (sym c.any_unsettled.ensures ∙ w.if-any_unsettled.false),
       )
     ]

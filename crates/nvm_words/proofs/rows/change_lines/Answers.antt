@@ -21,8 +21,8 @@ loop-i-init c = among_none Settled (λ _. changed_mark c.args.change) c.args.lin
 
 pub loop-i-preserved : goal.loop-i-preserved
 loop-i-preserved c =
-    among_more Settled (λ _. changed_mark c.args.change) c.args.lines.now c.args.marks.now c.loop-i.marks c.change-line.new.marks c.loop-i.i (omega arith)
-    (λ w m. twice c.args.change m) c.loop-i.invariant c.change-line.ensures
+    among_more Settled (λ _. changed_mark c.args.change) c.args.lines.now c.args.marks.now c.loop-i.marks c.change_line.new.marks c.loop-i.i (omega arith)
+    (λ w m. twice c.args.change m) c.loop-i.invariant c.change_line.ensures
 
 pub returns : goal.returns
 returns c = among_all Settled (λ _. changed_mark c.args.change) c.args.lines.now c.args.marks.now c.loop-i.marks c.loop-i.i (omega arith) c.loop-i.invariant

@@ -28,7 +28,7 @@ pub loop-i-init : goal.loop-i-init
 loop-i-init c = λ b e. none b _ e
 
 pub loop-i-preserved : goal.loop-i-preserved
-loop-i-preserved c = more _ c.args.lines.now c.loop-i.holds c.loop-i.i c.any-unsettled.result (omega arith) (omega (arith, c.requires.1 c.loop-i.i (omega arith))) c.any-unsettled.ensures c.loop-i.invariant
+loop-i-preserved c = more _ c.args.lines.now c.loop-i.holds c.loop-i.i c.any_unsettled.result (omega arith) (omega (arith, c.requires.1 c.loop-i.i (omega arith))) c.any_unsettled.ensures c.loop-i.invariant
 
 pub returns : goal.returns
 returns c = λ b m. c.loop-i.invariant b (ap (member b) (take_all c.loop-i.i c.args.lines.now (omega arith)) ∙ m)

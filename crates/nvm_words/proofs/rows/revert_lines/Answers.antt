@@ -15,7 +15,7 @@ loop-i-init c = among_none 0 (values_back c.args.settled.now c.args.marks.now c.
 pub loop-i-preserved : goal.loop-i-preserved
 loop-i-preserved c =
     among_more 0 (values_back c.args.settled.now c.args.marks.now c.args.how.now) c.args.lines.now c.args.present.now
-    c.loop-i.present c.revert-line.new.present c.loop-i.i (omega arith) (λ w p. twice (is_marked (get_or c.args.marks.now w Settled) && not (takes_new c.args.how.now w)) (get_or c.args.settled.now w 0) p) c.loop-i.invariant c.revert-line.ensures
+    c.loop-i.present c.revert_line.new.present c.loop-i.i (omega arith) (λ w p. twice (is_marked (get_or c.args.marks.now w Settled) && not (takes_new c.args.how.now w)) (get_or c.args.settled.now w 0) p) c.loop-i.invariant c.revert_line.ensures
 
 pub returns : goal.returns
 returns c =

@@ -13,63 +13,63 @@ pub loop-left-init : goal.loop-left-init
 loop-left-init g c =
     let i = ring c.args.places c.args.head c.args.tail c.requires in
     let u = used_below c.args.places c.args.head c.args.tail i.tail_in in
-    let e = c.used-between-left.ensures in
+    let e = c.used_between-left.ensures in
     (i.tail_in, omega arith, λ d a. ap (λ k. seeking_back c.args.places d c.args.number k c.args.tail k) (sym e))
 
 pub loop-left-preserved : goal.loop-left-preserved
 loop-left-preserved g c =
-    let u = c.in-ok-info.info in
+    let u = c.in_ok-info.info in
     let n : ℕ = count_in u - 0 in
-    let told = c.places-taken-taken.ensures in
-    let t : c.places-taken-taken.result ≡ taken n = omega arith in
-    let b = before_below c.args.places c.loop-left.place c.places-taken-taken.result c.loop-left.invariant.0 in
-    let e = c.place-before-place.ensures in
+    let told = c.places_taken-taken.ensures in
+    let t : c.places_taken-taken.result ≡ taken n = omega arith in
+    let b = before_below c.args.places c.loop-left.place c.places_taken-taken.result c.loop-left.invariant.0 in
+    let e = c.place_before-place.ensures in
     let less = c.loop-left.invariant.1 in (
       omega arith,
       omega arith,
       sought_on (g.S.Source.reads c.args.source.now) c.args.places c.args.head c.args.tail c.args.number c.loop-left.place c.loop-left.left c.loop-left.invariant.2
-          u (λ d a. c.in-ok-info.ensures d a ∙ ap (λ p. unit_at d (p + 1)) c.place-before-info-place.ensures) c.loop-left-test.true
-          (sym c.good_count_lem.ensures ∙ c.if-not-good-count.false) n c.place-before-place.result
-          (c.loop-left.left - c.places-taken-taken.result) (omega arith) (sym c.index-of.ensures ∙ c.in-default.is)
+          u (λ d a. c.in_ok-info.ensures d a ∙ ap (λ p. unit_at d (p + 1)) c.place_before-info_place.ensures) c.loop-left-test.true
+          (sym c.good_count.ensures ∙ c.if-not-good_count.false) n c.place_before-place.result
+          (c.loop-left.left - c.places_taken-taken.result) (omega arith) (sym c.index_of.ensures ∙ c.in_default.is)
           (e ∙ ap (before c.args.places c.loop-left.place) t) (ap (λ k. c.loop-left.left - k) t),
     )
 
-pub returns-in-err-info : goal.returns-in-err-info
-returns-in-err-info g c =
+pub returns-in_err-info : goal.returns-in_err-info
+returns-in_err-info g c =
     let b = before_below c.args.places c.loop-left.place 1 c.loop-left.invariant.0 in
-    let e = c.place-before-info-place.ensures in
-    let p = err_from_is_err_and c.from-residual.result c.from-residual.ensures.1 in
+    let e = c.place_before-info_place.ensures in
+    let p = err_from_is_err_and c.from_residual.result c.from_residual.ensures.1 in
     rw (p.1, p.2)
-    (inr (c.requires, wider (g.S.Source.reads c.args.source.now) (c.place-before-info-place.result + 1 + 1) (c.args.places + 1) c.in-err-info.field-0.0 (omega arith) c.in-err-info.ensures))
+    (inr (c.requires, wider (g.S.Source.reads c.args.source.now) (c.place_before-info_place.result + 1 + 1) (c.args.places + 1) c.in_err-info.field-0.0 (omega arith) c.in_err-info.ensures))
 
-pub returns-then-not-good-count : goal.returns-then-not-good-count
-returns-then-not-good-count g c = (
+pub returns-then-not-good_count : goal.returns-then-not-good_count
+returns-then-not-good_count g c = (
   c.requires,
   sought_stop (g.S.Source.reads c.args.source.now) c.args.places c.args.head c.args.tail c.args.number c.loop-left.place c.loop-left.left c.loop-left.invariant.2
-      c.in-ok-info.info (λ d a. c.in-ok-info.ensures d a ∙ ap (λ p. unit_at d (p + 1)) c.place-before-info-place.ensures) c.loop-left-test.true
-      (sym c.good_count_lem.ensures ∙ c.if-not-good-count.true),
+      c.in_ok-info.info (λ d a. c.in_ok-info.ensures d a ∙ ap (λ p. unit_at d (p + 1)) c.place_before-info_place.ensures) c.loop-left-test.true
+      (sym c.good_count.ensures ∙ c.if-not-good_count.true),
 )
 
-pub overflow-sub-taken : goal.overflow-sub-taken
-overflow-sub-taken g c =
-    let u = c.in-ok-info.info in
+pub overflow_sub-taken : goal.overflow_sub-taken
+overflow_sub-taken g c =
+    let u = c.in_ok-info.info in
     let n : ℕ = count_in u - 0 in
-    let told = c.places-taken-taken.ensures in
-    let t : c.places-taken-taken.result ≡ taken n = omega arith in
-    let b = index_below c.args.number n u c.in-Some.index (sym c.index-of.ensures ∙ c.in-Some.is) in
+    let told = c.places_taken-taken.ensures in
+    let t : c.places_taken-taken.result ≡ taken n = omega arith in
+    let b = index_below c.args.number n u c.in-Some.index (sym c.index_of.ensures ∙ c.in-Some.is) in
     omega arith
 
 pub returns-in-Some : goal.returns-in-Some
 returns-in-Some g c =
-    let u = c.in-ok-info.info in
+    let u = c.in_ok-info.info in
     let n : ℕ = count_in u - 0 in
-    let told = c.places-taken-taken.ensures in
-    let t : c.places-taken-taken.result ≡ taken n = omega arith in (
+    let told = c.places_taken-taken.ensures in
+    let t : c.places_taken-taken.result ≡ taken n = omega arith in (
       c.requires,
       sought_here (g.S.Source.reads c.args.source.now) c.args.places c.args.head c.args.tail c.args.number c.loop-left.place c.loop-left.left c.loop-left.invariant.2
-          u (λ d a. c.in-ok-info.ensures d a ∙ ap (λ p. unit_at d (p + 1)) c.place-before-info-place.ensures) c.loop-left-test.true
-          (sym c.good_count_lem.ensures ∙ c.if-not-good-count.false) n c.in-Some.index c.place-before.result (omega arith)
-          (sym c.index-of.ensures ∙ c.in-Some.is) (c.place-before.ensures ∙ ap (λ k. before c.args.places c.loop-left.place (k - c.in-Some.index)) t),
+          u (λ d a. c.in_ok-info.ensures d a ∙ ap (λ p. unit_at d (p + 1)) c.place_before-info_place.ensures) c.loop-left-test.true
+          (sym c.good_count.ensures ∙ c.if-not-good_count.false) n c.in-Some.index c.place_before.result (omega arith)
+          (sym c.index_of.ensures ∙ c.in-Some.is) (c.place_before.ensures ∙ ap (λ k. before c.args.places c.loop-left.place (k - c.in-Some.index)) t),
     )
 
 pub returns : goal.returns

@@ -10,8 +10,8 @@ loop-i-init c = places_none c.args.places c.args.place (units_of c.args.settings
 
 pub loop-i-preserved : goal.loop-i-preserved
 loop-i-preserved c =
-    places_more c.args.places c.args.place c.loop-i.i c.place-after.result (units_of c.args.settings.now) c.place-words-words.result
-    c.args.image.now c.loop-i.image c.fill.new.image (omega arith) (omega arith) c.place-after.ensures c.place-words-words.ensures c.fill.ensures c.loop-i.invariant
+    places_more c.args.places c.args.place c.loop-i.i c.place_after.result (units_of c.args.settings.now) c.place_words-words.result
+    c.args.image.now c.loop-i.image c.fill.new.image (omega arith) (omega arith) c.place_after.ensures c.place_words-words.ensures c.fill.ensures c.loop-i.invariant
 
 pub returns : goal.returns
 returns c =

@@ -11,5 +11,5 @@ loop-i-preserved c = copied_more c.args.settings.now c.loop-i.i _ c.loop-i.numbe
 
 pub returns : goal.returns
 returns c =
-    c.info-words.ensures
+    c.info_words.ensures
     ∙ ap info_unit (copied_all c.args.settings.now c.loop-i.i (length c.args.settings.now - 0) c.loop-i.numbers c.loop-i-test.false (omega arith) c.requires c.loop-i.invariant)

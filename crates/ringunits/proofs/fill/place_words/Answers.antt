@@ -5,4 +5,4 @@ pub returns-then-index-settings : goal.returns-then-index-settings
 returns-then-index-settings c = record_words c.args.settings.now c.args.index _ c.if-index-settings.true
 
 pub returns-else-index-settings : goal.returns-else-index-settings
-returns-else-index-settings c = info_words_last c.args.settings.now c.args.index c.info-of.result c.if-index-settings.false c.requires.1 c.info-of.ensures
+returns-else-index-settings c = info_words_last c.args.settings.now c.args.index c.info_of.result c.if-index-settings.false c.requires.1 c.info_of.ensures

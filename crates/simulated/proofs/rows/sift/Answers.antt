@@ -35,8 +35,8 @@ loop-i-preserved c =
     let lt : i < length ys = omega (arith, c.loop-i.invariant.long, c.loop-i-test.true) in
     let same : get_or ys i 0 ≡ get_or ys i (get_or ys i 0) = get_or_default ys i 0 (get_or ys i 0) lt in
     elim c.if-keep-b.branch [
-      | then-keep-b w ↦ step p xs w.queue-is w.count_is (FiltersInPlace-more_set {x = get_or ys i 0} c.loop-i.invariant lt w.if-keep-b.true same)
-      | else-keep-b w ↦ step p xs w.queue-is w.count_is (FiltersInPlace-more_no {x = get_or ys i 0} c.loop-i.invariant lt w.if-keep-b.false same)
+      | then-keep-b w ↦ step p xs w.queue-is w.count-is (FiltersInPlace-more_set {x = get_or ys i 0} c.loop-i.invariant lt w.if-keep-b.true same)
+      | else-keep-b w ↦ step p xs w.queue-is w.count-is (FiltersInPlace-more_no {x = get_or ys i 0} c.loop-i.invariant lt w.if-keep-b.false same)
     ]
 
 pub returns : goal.returns

@@ -22,7 +22,7 @@ returns c =
     let two : k * 4 + 2 ≡ k * 4 + 2 = omega arith in
     let three : k * 4 + 3 ≡ k * 4 + 3 = omega arith in
     summed _ _ _ _ _ _ _ _
-    (cast ls (k * 4) (k * 4 + 0) _ _ f0 none c.cast-unsigned.ensures c.from-a.ensures)
-    (cast ls (k * 4 + 1) (k * 4 + 1) _ _ f1 one c.cast-unsigned-2.ensures c.from-b.ensures)
-    (cast ls (k * 4 + 2) (k * 4 + 2) _ _ f2 two c.cast-unsigned-3.ensures c.from-c.ensures)
-    (cast ls (k * 4 + 3) (k * 4 + 3) _ _ f3 three c.cast-unsigned-4.ensures c.from-d.ensures)
+    (cast ls (k * 4) (k * 4 + 0) _ _ f0 none c.cast_unsigned.ensures c.from-a.ensures)
+    (cast ls (k * 4 + 1) (k * 4 + 1) _ _ f1 one c.cast_unsigned-2.ensures c.from-b.ensures)
+    (cast ls (k * 4 + 2) (k * 4 + 2) _ _ f2 two c.cast_unsigned-3.ensures c.from-c.ensures)
+    (cast ls (k * 4 + 3) (k * 4 + 3) _ _ f3 three c.cast_unsigned-4.ensures c.from-d.ensures)

@@ -11,7 +11,7 @@ pub loop-s-preserved : goal.loop-s-preserved
 loop-s-preserved c =
     let lt : c.loop-s.s < length c.loop-s.levels = omega arith in (
       length-set c.loop-s.levels c.loop-s.s _ ∙ c.loop-s.invariant.0,
-      below_more _ _ (λ k h. let ne : k ≢ c.loop-s.s = omega arith in rw get_or-set_other (c.loop-s.invariant.1 k h)) (let f : SFits w16 c.level-in.result = search rules in rw get_or-set_same (to_z-of_z w16 c.level-in.result f ∙ c.level-in.ensures)),
+      below_more _ _ (λ k h. let ne : k ≢ c.loop-s.s = omega arith in rw get_or-set_other (c.loop-s.invariant.1 k h)) (let f : SFits w16 c.level_in.result = search rules in rw get_or-set_same (to_z-of_z w16 c.level_in.result f ∙ c.level_in.ensures)),
     )
 
 pub returns : goal.returns

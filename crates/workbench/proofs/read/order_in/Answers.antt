@@ -3,15 +3,15 @@ use Rattle.std.proofs.lemmas.Bool.{cond-true, cond-false}
 use Rattle.workbench.specs.Orders.{asked_by}
 use Rattle.workbench.proofs.read.order_in.Goals as goal
 
-pub returns-then-is-form : goal.returns-then-is-form
+pub returns-then-is_form : goal.returns-then-is_form
 unfolding asked_by
-returns-then-is-form c = c.tile-in.ensures ∙ sym (cond-true _ _ _ (sym c.if-is-form.ensures))
+returns-then-is_form c = c.tile_in.ensures ∙ sym (cond-true _ _ _ (sym c.if-is_form.ensures))
 
-pub returns-then-is-form-2 : goal.returns-then-is-form-2
+pub returns-then-is_form-2 : goal.returns-then-is_form-2
 unfolding asked_by
-returns-then-is-form-2 c =
-    c.mast-in.ensures ∙ sym (cond-false _ _ _ (sym c.if-is-form.ensures) ∙ cond-true _ _ _ (sym c.if-is-form-2.ensures))
+returns-then-is_form-2 c =
+    c.mast_in.ensures ∙ sym (cond-false _ _ _ (sym c.if-is_form.ensures) ∙ cond-true _ _ _ (sym c.if-is_form-2.ensures))
 
 pub returns : goal.returns
 unfolding asked_by
-returns c = sym (cond-false _ _ _ (sym c.if-is-form.ensures) ∙ cond-false _ _ _ (sym c.if-is-form-2.ensures))
+returns c = sym (cond-false _ _ _ (sym c.if-is_form.ensures) ∙ cond-false _ _ _ (sym c.if-is_form-2.ensures))

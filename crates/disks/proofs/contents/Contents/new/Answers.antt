@@ -3,20 +3,8 @@ use Rattle.simulated.specs.declared.supply.Supply.{Supply}
 use Rattle.disks.specs.State.{disk_of, blocks_in, made_of}
 use Rattle.disks.proofs.contents.Contents.new.Goals as goal
 
-pub invariant-of-result : goal.invariant-of-result
-invariant-of-result c = (
-  omega (arith, c.min-blocks.ensures, c.min.ensures, c.len.ensures, c.truncate.ensures.len),
-  (
-    omega (arith, c.min-blocks.ensures, c.min.ensures, c.len-2.ensures, c.truncate-2.ensures.len),
-    (
-      omega (arith, c.min-blocks.ensures, c.len-3.ensures, c.truncate-3.ensures.len),
-      (
-        c.list-marked.ensures.size ∙ c.in-ok-pending.ensures.0,
-        ((λ s h. c.list-marked.ensures.listed s (ap (λ (xs : List Bool). get_or xs s false) c.as-slice.ensures.value ∙ h)), tt),
-      ),
-    ),
-  ),
-)
+pub invariant_of-result : goal.invariant_of-result
+invariant_of-result c = record { olds = omega (arith, c.min-blocks.ensures, c.min.ensures, c.len.ensures, c.truncate.ensures.len); news = omega (arith, c.min-blocks.ensures, c.min.ensures, c.len-2.ensures, c.truncate-2.ensures.len); eights = omega (arith, c.min-blocks.ensures, c.len-3.ensures, c.truncate-3.ensures.len); lists = c.list_marked.ensures.size ∙ c.in_ok-pending.ensures.0; listed = (λ s h. c.list_marked.ensures.listed s (ap (λ (xs : List Bool). get_or xs s false) c.as_slice.ensures.value ∙ h)) }
 
 -- the truncated rows, with the power that was made
 made : (n acts : ℕ) (p : Supply) (olds news olds' news' : List ℕ) (marks marks' : List Bool) → n ≡ blocks_in olds news marks → p ≡ record { left = acts; dark = false }

@@ -18,26 +18,11 @@ listed_more x y lines b s hx h e = member_with (s / 8) b lines ∙ by_test (eqb 
         let out : inside (8 * b) (8 * b + 8) s ≡ false = grind (arith, nat_tests) in
         or_left _ _ (h (sym (hx ∙ ap (λ t. cond t true y) out) ∙ e))
 
-pub invariant-of-self : goal.invariant-of-self
-invariant-of-self c =
-    let d = c.args.self.now in (
-      d.olds,
-      (
-        d.news,
-        (
-          d.eights,
-          (
-            c.add.ensures.size ∙ d.lists,
-            (
-              (λ s h. ap (member (s / 8)) c.add.ensures.lines ∙ listed_more _ _ (lines_of d.pending) c.args.block s
-                  (lent_at false d.waiting _ _ c.as-mut-slice-3.ensures.value c.set-marks.auto.marks s ∙ c.set-marks.ensures s)
-                  (λ e. d.listed s (ap (λ (xs : List Bool). get_or xs s false) (sym c.as-mut-slice-3.ensures.value) ∙ e)) h),
-              tt,
-            ),
-          ),
-        ),
-      ),
-    )
+pub invariant_of-self : goal.invariant_of-self
+invariant_of-self c =
+    let d = c.args.self.now in record { olds = d.olds; news = d.news; eights = d.eights; lists = c.add.ensures.size ∙ d.lists; listed = (λ s h. ap (member (s / 8)) c.add.ensures.lines ∙ listed_more _ _ (lines_of d.pending) c.args.block s
+                  (lent_at false d.waiting _ _ c.as_mut_slice-3.ensures.value c.set_marks.auto.marks s ∙ c.set_marks.ensures s)
+                  (λ e. d.listed s (ap (λ (xs : List Bool). get_or xs s false) (sym c.as_mut_slice-3.ensures.value) ∙ e)) h) }
 
 pub returns : goal.returns
 returns c =
@@ -47,12 +32,12 @@ returns c =
       size = refl;
       supply = refl;
       sectors = written d.settled.items d.present.items _ _ c.args.buf.now d.waiting.items _ b
-          (λ w. lent_at 0 d.settled _ _ c.as-mut-slice.ensures.value c.renew.auto.settled w ∙ c.renew.ensures.settled w
-          ∙ ap (λ (xs : List ℕ). cond (eqb (w / 512) b) (get_or xs w 0) (get_or c.as-mut-slice.result.now w 0)) c.as-mut-slice-2.ensures.value
-          ∙ ap (λ (xs : List ℕ). cond (eqb (w / 512) b) (get_or d.present.items w 0) (get_or xs w 0)) c.as-mut-slice.ensures.value)
-          (λ w. lent_at 0 d.present _ _ c.as-mut-slice-2.ensures.value c.renew.auto.present w ∙ c.renew.ensures.present w
-          ∙ ap (λ (xs : List ℕ). cond (eqb (w / 512) b) (get_or c.args.buf.now (w - 512 * b) 0) (get_or xs w 0)) c.as-mut-slice-2.ensures.value)
-          (λ s. lent_at false d.waiting _ _ c.as-mut-slice-3.ensures.value c.set-marks.auto.marks s ∙ c.set-marks.ensures s
-          ∙ ap (λ (xs : List Bool). cond (inside (8 * b) (8 * b + 8) s) true (get_or xs s false)) c.as-mut-slice-3.ensures.value)
+          (λ w. lent_at 0 d.settled _ _ c.as_mut_slice.ensures.value c.renew.auto.settled w ∙ c.renew.ensures.settled w
+          ∙ ap (λ (xs : List ℕ). cond (eqb (w / 512) b) (get_or xs w 0) (get_or c.as_mut_slice.result.now w 0)) c.as_mut_slice-2.ensures.value
+          ∙ ap (λ (xs : List ℕ). cond (eqb (w / 512) b) (get_or d.present.items w 0) (get_or xs w 0)) c.as_mut_slice.ensures.value)
+          (λ w. lent_at 0 d.present _ _ c.as_mut_slice-2.ensures.value c.renew.auto.present w ∙ c.renew.ensures.present w
+          ∙ ap (λ (xs : List ℕ). cond (eqb (w / 512) b) (get_or c.args.buf.now (w - 512 * b) 0) (get_or xs w 0)) c.as_mut_slice-2.ensures.value)
+          (λ s. lent_at false d.waiting _ _ c.as_mut_slice-3.ensures.value c.set_marks.auto.marks s ∙ c.set_marks.ensures s
+          ∙ ap (λ (xs : List Bool). cond (inside (8 * b) (8 * b + 8) s) true (get_or xs s false)) c.as_mut_slice-3.ensures.value)
           (none_waits d.waiting.items b c.requires.1);
     }

@@ -18,13 +18,13 @@ pub revert-requires : goal.revert-requires
 revert-requires c =
     let d = c.args.self.now in
     let q = d.pending in (
-      omega (arith, c.as-slice.ensures.len, c.as-slice-2.ensures.len, d.olds, d.eights),
+      omega (arith, c.as_slice.ensures.len, c.as_slice-2.ensures.len, d.olds, d.eights),
       (
-        omega (arith, c.as-mut-slice.ensures.len, c.as-slice-2.ensures.len, d.news, d.eights),
+        omega (arith, c.as_mut_slice.ensures.len, c.as_slice-2.ensures.len, d.news, d.eights),
         (λ k l.
-            let e : get_or c.as-slice-3.result.now k 0 ≡ get_or q.queue.items k 0 = ap (λ (xs : List ℕ). get_or xs k 0) c.as-slice-3.ensures in
-            let long : length c.as-slice-3.result.now ≡ length q.queue.items = ap length c.as-slice-3.ensures in
-            omega (arith, listed_within q.flags.items q.queue.items q.flagged k (omega (arith, long)), c.as-slice-2.ensures.len, d.eights, d.lists, q.long, q.flags.ok.0, e)),
+            let e : get_or c.as_slice-3.result.now k 0 ≡ get_or q.queue.items k 0 = ap (λ (xs : List ℕ). get_or xs k 0) c.as_slice-3.ensures in
+            let long : length c.as_slice-3.result.now ≡ length q.queue.items = ap length c.as_slice-3.ensures in
+            omega (arith, listed_within q.flags.items q.queue.items q.flagged k (omega (arith, long)), c.as_slice-2.ensures.len, d.eights, d.lists, q.long, q.flags.ok.0, e)),
       ),
     )
 
@@ -46,8 +46,8 @@ returns c =
     let d = c.args.self.now in
     let how = c.args.how.now in
     let e = c.settle.ensures in
-    let all = words d how c.as-slice.result.now c.as-mut-slice.result.now c.revert.new.present c.as-slice-2.result.now c.as-slice-3.result.now
-    c.as-slice.ensures.value c.as-mut-slice.ensures.value c.as-slice-2.ensures.value c.as-slice-3.ensures c.revert.auto.present c.revert.ensures in
+    let all = words d how c.as_slice.result.now c.as_mut_slice.result.now c.revert.new.present c.as_slice-2.result.now c.as_slice-3.result.now
+    c.as_slice.ensures.value c.as_mut_slice.ensures.value c.as_slice-2.ensures.value c.as_slice-3.ensures c.revert.auto.present c.revert.ensures in
     same_state _ (returned how c.args.acts (disk_state d)) (ap (λ (x : DiskState). x.meaning.size) e) (ap (λ (x : Supply). x.dark) c.restore.ensures)
     (λ s. ap (λ (x : DiskState). x.meaning.piece s) e ∙ came_back d.settled.items d.present.items (with_items d.present c.revert.new.present).items d.waiting.items how (lines_of d.pending) d.listed all s)
     (ap (λ (x : Supply). x.left) c.restore.ensures)

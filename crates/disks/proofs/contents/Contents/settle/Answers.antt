@@ -23,24 +23,24 @@ module _ (v : Vec Bool Global) (old after : List Bool) (queue lines : List ℕ) 
       by_tests false true i j = no_true _ i (ap (member (s / 8)) qs ∙ listed s (ap (λ (xs : List Bool). get_or xs s false) (sym is) ∙ j))
       by_tests false false i j = refl
 
-pub clear-marks-requires : goal.clear-marks-requires
-clear-marks-requires c k l =
+pub clear_marks-requires : goal.clear_marks-requires
+clear_marks-requires c k l =
     let d = c.args.self.now in
     let q = d.pending in
-    let e : get_or c.as-slice.result.now k 0 ≡ get_or q.queue.items k 0 = ap (λ (xs : List ℕ). get_or xs k 0) c.as-slice.ensures in
-    let long : length c.as-slice.result.now ≡ length q.queue.items = ap length c.as-slice.ensures in
-    omega (arith, listed_within q.flags.items q.queue.items q.flagged k (omega (arith, long)), c.as-mut-slice.ensures.len, d.eights, d.lists, q.long, q.flags.ok.0, e)
+    let e : get_or c.as_slice.result.now k 0 ≡ get_or q.queue.items k 0 = ap (λ (xs : List ℕ). get_or xs k 0) c.as_slice.ensures in
+    let long : length c.as_slice.result.now ≡ length q.queue.items = ap length c.as_slice.ensures in
+    omega (arith, listed_within q.flags.items q.queue.items q.flagged k (omega (arith, long)), c.as_mut_slice.ensures.len, d.eights, d.lists, q.long, q.flags.ok.0, e)
 
-pub invariant-of-self : goal.invariant-of-self
-invariant-of-self c =
+pub invariant_of-self : goal.invariant_of-self
+invariant_of-self c =
     let d = c.args.self.now in
-    let none = clear d.waiting c.as-mut-slice.result.now c.clear-marks.new.waiting c.as-slice.result.now (lines_of d.pending)
-    c.as-mut-slice.ensures.value c.as-slice.ensures c.clear-marks.auto.waiting d.listed c.clear-marks.ensures in
-    (d.olds, (d.news, (d.eights, (c.clear.ensures.size ∙ d.lists, ((λ s h. no_true _ (none s) h), tt)))))
+    let none = clear d.waiting c.as_mut_slice.result.now c.clear_marks.new.waiting c.as_slice.result.now (lines_of d.pending)
+    c.as_mut_slice.ensures.value c.as_slice.ensures c.clear_marks.auto.waiting d.listed c.clear_marks.ensures in
+    record { olds = d.olds; news = d.news; eights = d.eights; lists = c.clear.ensures.size ∙ d.lists; listed = (λ s h. no_true _ (none s) h) }
 
 pub returns : goal.returns
 returns c =
     let d = c.args.self.now in
-    let none = clear d.waiting c.as-mut-slice.result.now c.clear-marks.new.waiting c.as-slice.result.now (lines_of d.pending)
-    c.as-mut-slice.ensures.value c.as-slice.ensures c.clear-marks.auto.waiting d.listed c.clear-marks.ensures in
+    let none = clear d.waiting c.as_mut_slice.result.now c.clear_marks.new.waiting c.as_slice.result.now (lines_of d.pending)
+    c.as_mut_slice.ensures.value c.as_slice.ensures c.clear_marks.auto.waiting d.listed c.clear_marks.ensures in
     same_state _ (all_settled (disk_state d)) refl refl (λ s. now_settled d.settled.items d.present.items d.waiting.items _ s (none s)) refl

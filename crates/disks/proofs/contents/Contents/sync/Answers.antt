@@ -10,5 +10,5 @@ returns c =
     let d = c.args.self.now in
     let e = c.settle.ensures in
     performed disk_rules (patient Sync) d.blocks (sector_at d.settled.items d.present.items d.waiting.items) Sync refl refl
-    d.supply c.spend.new.self c.in-ok-spend.field-0 (disk_state c.settle.new.self) c.in-ok-spend.ensures.answer c.in-ok-spend.ensures.after
+    d.supply c.spend.new.self c.in_ok-spend.field-0 (disk_state c.settle.new.self) c.in_ok-spend.ensures.answer c.in_ok-spend.ensures.after
     (ap (λ (x : DiskState). x.meaning.size) e) (ap (λ (x : DiskState). x.meaning.dark) e) (λ i. ap (λ (x : DiskState). x.meaning.piece i) e) (ap (λ (x : DiskState). x.left) e)

@@ -14,7 +14,7 @@ returns c =
     let b = c.args.block in
     let a = Write b c.args.buf.now in
     let free = marked d.settled.items d.present.items d.waiting.items b
-    ∙ ap (λ (xs : List Bool). any_below (λ k. get_or xs (8 * b + k) false) 8) (sym c.as-slice.ensures.value) ∙ sym c.any-waits.ensures ∙ c.if-any-waits.false in
+    ∙ ap (λ (xs : List Bool). any_below (λ k. get_or xs (8 * b + k) false) 8) (sym c.as_slice.ensures.value) ∙ sym c.any_waits.ensures ∙ c.if-any_waits.false in
     performed disk_rules (patient a) d.blocks (sector_at d.settled.items d.present.items d.waiting.items) a (lt-leb d.blocks b c.if-block-self.false) free
-    d.supply c.spend.new.self c.in-ok-spend.field-0 (disk_state c.put.new.self) c.in-ok-spend.ensures.answer c.in-ok-spend.ensures.after
+    d.supply c.spend.new.self c.in_ok-spend.field-0 (disk_state c.put.new.self) c.in_ok-spend.ensures.answer c.in_ok-spend.ensures.after
     c.put.ensures.size (ap (λ (x : Supply). x.dark) c.put.ensures.supply) c.put.ensures.sectors (ap (λ (x : Supply). x.left) c.put.ensures.supply)

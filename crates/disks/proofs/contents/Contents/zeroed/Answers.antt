@@ -33,9 +33,9 @@ module _ (blocks acts n m : ℕ) (long : n ≡ 512 * blocks) (eights : m ≡ 8 *
 
 pub returns : goal.returns
 returns c =
-    let olds = c.in-Ok.ensures.exact (λ y e. e) in
-    let news = c.in-Ok-vec.ensures.exact (λ y e. e) in
-    let marks = c.in-Ok-vec-2.ensures.exact (λ y e. e) in
+    let olds = c.in-Ok.ensures.items_if_clones_equal (λ y e. e) in
+    let news = c.in-Ok-vec.ensures.items_if_clones_equal (λ y e. e) in
+    let marks = c.in-Ok-vec-2.ensures.items_if_clones_equal (λ y e. e) in
     MatchResult-weaker c.new.result c.new.ensures
     (λ d e. e
     ∙ ap (λ (xs : List ℕ). made_of xs c.in-Ok-vec.present.items c.in-Ok-vec-2.waiting.items c.args.acts) olds

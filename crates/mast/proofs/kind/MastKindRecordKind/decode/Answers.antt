@@ -25,11 +25,11 @@ returns-then-words-ne2 c =
 tested : (u bytes : List ℕ) (size : ℕ) (b : Bool) → bytes ≡ bytes_in u → b ≡ each is_padding (take (232 - size) (drop size bytes)) → each is_padding (take (232 - size) (drop size (bytes_in u))) ≡ b
 tested u bytes size b e h = ap (λ (xs : List ℕ). each is_padding (take (232 - size) (drop size xs))) (sym e) ∙ sym h
 
-pub returns-then-not-are-padding : goal.returns-then-not-are-padding
-returns-then-not-are-padding c =
+pub returns-then-not-are_padding : goal.returns-then-not-are_padding
+returns-then-not-are_padding c =
     let u : List ℕ = c.args.words.now in
     let size : ℕ = get_or u 2 0 in
-    let no' = tested u c.bytes-in-bytes.result size false c.bytes-in-bytes.ensures c.if-not-are-padding.ensures in
+    let no' = tested u c.bytes_in-bytes.result size false c.bytes_in-bytes.ensures c.if-not-are_padding.ensures in
     sym (reads_none u (λ m e. both_ways _ no' (of_padding u size (shaped u m e).padding)))
 
 pub returns : goal.returns
@@ -37,8 +37,8 @@ returns c =
     let u : List ℕ = c.args.words.now in
     let size : ℕ = get_or u 2 0 in
     let most : size ≤ 232 = c.if-words-gt232.false in
-    let yes' = tested u c.bytes-in-bytes.result size true c.bytes-in-bytes.ensures c.if-not-are-padding.ensures in
+    let yes' = tested u c.bytes_in-bytes.result size true c.bytes_in-bytes.ensures c.if-not-are_padding.ensures in
     let whole : size - 0 ≡ size = omega arith in
-    let found = ap (λ (n : ℕ). take n c.bytes-in-bytes.result) whole ∙ ap (take size) c.bytes-in-bytes.ensures in
+    let found = ap (λ (n : ℕ). take n c.bytes_in-bytes.result) whole ∙ ap (take size) c.bytes_in-bytes.ensures in
     c.ok.ensures.value
-    ∙ made_reads u (take (size - 0) c.bytes-in-bytes.result) c.new.result c.told-words c.if-words-ne2.false c.fits-words most (padding_of u size yes' most) found c.new.ensures
+    ∙ made_reads u (take (size - 0) c.bytes_in-bytes.result) c.new.result c.told-words c.if-words-ne2.false c.fits-words most (padding_of u size yes' most) found c.new.ensures

@@ -10,17 +10,17 @@ pub loop-k-preserved : goal.loop-k-preserved
 loop-k-preserved c =
     let at : ℕ = 3 + c.loop-k.k in
     let lt : at < length c.loop-k.place = omega (arith, c.loop-k.invariant.0) in
-    let kept : (i : ℕ) → i ≢ at → _ = λ i ne. get_or-set_other c.loop-k.place at i c.name-word.result 0 ne in
+    let kept : (i : ℕ) → i ≢ at → _ = λ i ne. get_or-set_other c.loop-k.place at i c.name_word.result 0 ne in
     let ne0 : 0 ≢ at = omega arith in
     let ne1 : 1 ≢ at = omega arith in
     let ne2 : 2 ≢ at = omega arith in (
-      length-set c.loop-k.place at c.name-word.result ∙ c.loop-k.invariant.0,
+      length-set c.loop-k.place at c.name_word.result ∙ c.loop-k.invariant.0,
       kept 0 ne0 ∙ c.loop-k.invariant.1,
       kept 1 ne1 ∙ c.loop-k.invariant.2,
       kept 2 ne2 ∙ c.loop-k.invariant.3,
       below_more _ _
           (λ i h. let ne : 3 + i ≢ at = omega arith in kept (3 + i) ne ∙ c.loop-k.invariant.4 i h)
-          (get_or-set_same c.loop-k.place at c.name-word.result 0 lt ∙ c.name-word.ensures),
+          (get_or-set_same c.loop-k.place at c.name_word.result 0 lt ∙ c.name_word.ensures),
     )
 
 pub returns : goal.returns

@@ -3,24 +3,15 @@ use Rattle.mast.specs.Names.{is_name, short, padded, padded_whole, padded_name, 
 use Rattle.mast.specs.Units.{name_fits}
 use Rattle.mast.proofs.record.Mast.new.Goals as goal
 
-pub padded-name-requires : goal.padded-name-requires
-padded-name-requires c = short c.args.name.now (name_fits c.args.name.now c.in-None.ensures)
+pub padded_name-requires : goal.padded_name-requires
+padded_name-requires c = short c.args.name.now (name_fits c.args.name.now c.in-None.ensures)
 
-pub invariant-of-result : goal.invariant-of-result
-invariant-of-result c =
+pub invariant_of-result : goal.invariant_of-result
+invariant_of-result c =
     let name : List ℕ = c.args.name.now in
     let fits : is_name name ≡ true = name_fits name c.in-None.ensures in
     let most : length name ≤ 232 = short name fits in
-    let is = c.padded_name.ensures in (
-      ap length is ∙ padded_whole name most,
-      (
-        most,
-        (
-          ap (λ (bytes : List ℕ). is_name (take (length name) bytes)) is ∙ ap is_name (padded_name name) ∙ fits,
-          ((λ j ge. ap (λ (bytes : List ℕ). get_or bytes j 0) is ∙ padded_after name j ge), tt),
-        ),
-      ),
-    )
+    let is = c.padded_name.ensures in record { whole = ap length is ∙ padded_whole name most; most = most; named = ap (λ (bytes : List ℕ). is_name (take (length name) bytes)) is ∙ ap is_name (padded_name name) ∙ fits; padded = (λ j ge. ap (λ (bytes : List ℕ). get_or bytes j 0) is ∙ padded_after name j ge) }
 
 pub returns-in-None : goal.returns-in-None
 returns-in-None c =

@@ -10,10 +10,10 @@ use Rattle.nvm_words.proofs.words.Words.fence.Goals as goal
 pub returns : goal.returns
 returns c =
     let n = c.args.self.now in
-    let n₁ = c.admit-fence.new.self in
-    let n₂ = c.fence-lines.new.self in
-    let passed = c.in-ok-admit-fence.ensures in
-    let became = c.fence-lines.ensures in
+    let n₁ = c.admit_fence.new.self in
+    let n₂ = c.fence_lines.new.self in
+    let passed = c.in_ok-admit_fence.ensures in
+    let became = c.fence_lines.ensures in
     record {
       answer = performed_ok n n₁ n₂ Fence (nvm_makes Fence) _ passed became;
       state = performed n n₁ n₂ Fence (nvm_makes Fence) _ passed became;

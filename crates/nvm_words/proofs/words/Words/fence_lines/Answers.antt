@@ -14,35 +14,35 @@ use Rattle.nvm_words.proofs.Listed.{all_changed, fenced_lines_lem, kept_same, li
 use Rattle.nvm_words.proofs.Owned.{listed_words, listed_below}
 use Rattle.nvm_words.proofs.words.Words.fence_lines.Goals as goal
 
-pub change-lines-requires : goal.change-lines-requires
-change-lines-requires c =
+pub change_lines-requires : goal.change_lines-requires
+change_lines-requires c =
     let n = c.args.self.now in
-    listed_words n c.as-slice.result.now c.as-slice.ensures (length c.as-mut-slice.result.now) (omega (arith, c.as-mut-slice.ensures.len, n.marks_long))
+    listed_words n c.as_slice.result.now c.as_slice.ensures (length c.as_mut_slice.result.now) (omega (arith, c.as_mut_slice.ensures.len, n.marks_long))
 
-pub note-lines-requires : goal.note-lines-requires
-note-lines-requires c =
+pub note_lines-requires : goal.note_lines-requires
+note_lines-requires c =
     let n = c.args.self.now in (
-      listed_words n c.as-slice-3.result.now c.as-slice-3.ensures (length c.as-slice-2.result.now) (omega (arith, c.as-slice-2.ensures.len, n.marks_long)),
-      (λ k lt. omega (arith, listed_below n c.as-slice-3.result.now c.as-slice-3.ensures k lt, c.as-mut-slice-2.ensures.len, n.holds_long)),
+      listed_words n c.as_slice-3.result.now c.as_slice-3.ensures (length c.as_slice-2.result.now) (omega (arith, c.as_slice-2.ensures.len, n.marks_long)),
+      (λ k lt. omega (arith, listed_below n c.as_slice-3.result.now c.as_slice-3.ensures k lt, c.as_mut_slice-2.ensures.len, n.holds_long)),
     )
 
-pub invariant-of-self : goal.invariant-of-self
-invariant-of-self c =
+pub invariant_of-self : goal.invariant_of-self
+invariant_of-self c =
     let n = c.args.self.now in
     let ls = n.pending.queue.items in
-    let changed = lent_lines n.marks c.as-mut-slice.result.now c.change-lines.new.marks c.as-slice.result.now ls Fence c.as-slice.ensures c.as-mut-slice.ensures.value c.change-lines.auto.marks c.change-lines.ensures in
-    let noted = lent_notes n.holds c.as-mut-slice-2.result.now c.note-lines.new.holds c.as-slice-4.result.now c.as-slice-3.result.now ls c.as-slice-2.result.now _
-    c.as-mut-slice-2.ensures.value c.note-lines.auto.holds c.as-slice-4.ensures.value c.as-slice-3.ensures c.as-slice-2.ensures.value c.note-lines.ensures in
-    let exact = λ (l : ℕ). ap (member l) c.retain.ensures.lines ∙ fenced_lines_lem n.marks.items ls n.exact _ (λ b. get_or c.as-slice-4.result.now b false) changed noted l in
-    (n.settled_long, (n.present_long, (n.marks_long, (n.holds_long, (c.retain.ensures.size ∙ n.covers, (exact, tt))))))
+    let changed = lent_lines n.marks c.as_mut_slice.result.now c.change_lines.new.marks c.as_slice.result.now ls Fence c.as_slice.ensures c.as_mut_slice.ensures.value c.change_lines.auto.marks c.change_lines.ensures in
+    let noted = lent_notes n.holds c.as_mut_slice-2.result.now c.note_lines.new.holds c.as_slice-4.result.now c.as_slice-3.result.now ls c.as_slice-2.result.now _
+    c.as_mut_slice-2.ensures.value c.note_lines.auto.holds c.as_slice-4.ensures.value c.as_slice-3.ensures c.as_slice-2.ensures.value c.note_lines.ensures in
+    let exact = λ (l : ℕ). ap (member l) c.retain.ensures.lines ∙ fenced_lines_lem n.marks.items ls n.exact _ (λ b. get_or c.as_slice-4.result.now b false) changed noted l in
+    record { settled_long = n.settled_long; present_long = n.present_long; marks_long = n.marks_long; holds_long = n.holds_long; covers = c.retain.ensures.size ∙ n.covers; exact = exact }
 
 pub returns : goal.returns
 returns c =
     let n = c.args.self.now in
     let ls = n.pending.queue.items in
-    let changed = lent_lines n.marks c.as-mut-slice.result.now c.change-lines.new.marks c.as-slice.result.now ls Fence c.as-slice.ensures c.as-mut-slice.ensures.value c.change-lines.auto.marks c.change-lines.ensures in
-    let noted = lent_notes n.holds c.as-mut-slice-2.result.now c.note-lines.new.holds c.as-slice-4.result.now c.as-slice-3.result.now ls c.as-slice-2.result.now _
-    c.as-mut-slice-2.ensures.value c.note-lines.auto.holds c.as-slice-4.ensures.value c.as-slice-3.ensures c.as-slice-2.ensures.value c.note-lines.ensures in
+    let changed = lent_lines n.marks c.as_mut_slice.result.now c.change_lines.new.marks c.as_slice.result.now ls Fence c.as_slice.ensures c.as_mut_slice.ensures.value c.change_lines.auto.marks c.change_lines.ensures in
+    let noted = lent_notes n.holds c.as_mut_slice-2.result.now c.note_lines.new.holds c.as_slice-4.result.now c.as_slice-3.result.now ls c.as_slice-2.result.now _
+    c.as_mut_slice-2.ensures.value c.note_lines.auto.holds c.as_slice-4.ensures.value c.as_slice-3.ensures c.as_slice-2.ensures.value c.note_lines.ensures in
     let words = all_changed n.marks.items ls n.exact n.settled.items n.present.items _ Fence changed in
     record {
       size = refl;

@@ -8,34 +8,16 @@ use Rattle.nvm_words.specs.Made.{units_in}
 use Rattle.nvm_words.proofs.Counted.{made_exact, made_words, made_lines_lem}
 use Rattle.nvm_words.proofs.words.Words.new.Goals as goal
 
-pub list-unsettled-requires : goal.list-unsettled-requires
-list-unsettled-requires c = (
-  omega (arith, c.in-ok-pending.ensures.0, c.as-slice.ensures.len, c.truncate-3.ensures.len, c.min-units.ensures, c.len-3.ensures),
-  c.in-ok-pending.ensures.1,
+pub list_unsettled-requires : goal.list_unsettled-requires
+list_unsettled-requires c = (
+  omega (arith, c.in_ok-pending.ensures.0, c.as_slice.ensures.len, c.truncate-3.ensures.len, c.min-units.ensures, c.len-3.ensures),
+  c.in_ok-pending.ensures.1,
 )
 
-pub invariant-of-result : goal.invariant-of-result
-invariant-of-result c = (
-  omega (arith, c.min-units.ensures, c.min.ensures, c.len.ensures, c.truncate.ensures.len),
-  (
-    omega (arith, c.min-units.ensures, c.min.ensures, c.len-2.ensures, c.truncate-2.ensures.len),
-    (
-      omega (arith, c.min-units.ensures, c.len-3.ensures, c.truncate-3.ensures.len),
-      (
-        c.in-Ok.ensures.made.1,
-        (
-          c.list-unsettled.ensures.size ∙ c.in-ok-pending.ensures.0,
-          (
-            made_exact c.truncate-3.new.self.items _ (length c.as-slice.result.now / 8)
-                (omega (arith, c.as-slice.ensures.len, c.truncate-3.new.self.ok.0, c.truncate-3.ensures.len, c.min-units.ensures, c.len-3.ensures))
-                (c.list-unsettled.ensures.lines ∙ ap (λ (ms : List Mark). filter (any_marked ms) (range_with_len 0 (length c.as-slice.result.now / 8))) c.as-slice.ensures.value),
-            tt,
-          ),
-        ),
-      ),
-    ),
-  ),
-)
+pub invariant_of-result : goal.invariant_of-result
+invariant_of-result c = record { settled_long = omega (arith, c.min-units.ensures, c.min.ensures, c.len.ensures, c.truncate.ensures.len); present_long = omega (arith, c.min-units.ensures, c.min.ensures, c.len-2.ensures, c.truncate-2.ensures.len); marks_long = omega (arith, c.min-units.ensures, c.len-3.ensures, c.truncate-3.ensures.len); holds_long = c.in-Ok.ensures.len; covers = c.list_unsettled.ensures.size ∙ c.in_ok-pending.ensures.0; exact = made_exact c.truncate-3.new.self.items _ (length c.as_slice.result.now / 8)
+                (omega (arith, c.as_slice.ensures.len, c.truncate-3.new.self.ok.0, c.truncate-3.ensures.len, c.min-units.ensures, c.len-3.ensures))
+                (c.list_unsettled.ensures.lines ∙ ap (λ (ms : List Mark). filter (any_marked ms) (range_with_len 0 (length c.as_slice.result.now / 8))) c.as_slice.ensures.value) }
 
 pub returns : goal.returns
 returns c =
@@ -48,6 +30,6 @@ returns c =
       state = same_state _ _ size (ap (λ (p : Supply). p.dark) c.new-2.ensures)
           (made_words ss ps _ _ ms _ units c.truncate.ensures.items c.truncate-2.ensures.items c.truncate-3.ensures.items size)
           (ap (λ (p : Supply). p.left) c.new-2.ensures);
-      lines = made_lines_lem ss ps _ _ ms _ units c.truncate.ensures.items c.truncate-2.ensures.items c.truncate-3.ensures.items size c.as-slice.result.now _ c.as-slice.ensures.value
-          (omega (arith, c.as-slice.ensures.len, c.truncate-3.ensures.len, c.min-units.ensures, c.len-3.ensures)) c.list-unsettled.ensures.lines;
+      lines = made_lines_lem ss ps _ _ ms _ units c.truncate.ensures.items c.truncate-2.ensures.items c.truncate-3.ensures.items size c.as_slice.result.now _ c.as_slice.ensures.value
+          (omega (arith, c.as_slice.ensures.len, c.truncate-3.ensures.len, c.min-units.ensures, c.len-3.ensures)) c.list_unsettled.ensures.lines;
     }

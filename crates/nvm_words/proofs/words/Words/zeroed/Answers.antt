@@ -30,4 +30,4 @@ by_cases units acts ss ps ms (Ok n) is-s is-p is_m h =
 by_cases units acts ss ps ms (Err e) is-s is-p is_m h = h
 
 pub returns : goal.returns
-returns c = by_cases c.args.units c.args.acts _ _ _ c.new.result (c.in-Ok.ensures.exact (λ y e. e)) (c.in-Ok-vec.ensures.exact (λ y e. e)) (c.in-Ok-vec-2.ensures.exact (λ y e. e)) c.new.ensures
+returns c = by_cases c.args.units c.args.acts _ _ _ c.new.result (c.in-Ok.ensures.items_if_clones_equal (λ y e. e)) (c.in-Ok-vec.ensures.items_if_clones_equal (λ y e. e)) (c.in-Ok-vec-2.ensures.items_if_clones_equal (λ y e. e)) c.new.ensures

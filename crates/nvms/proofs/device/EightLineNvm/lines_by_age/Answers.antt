@@ -3,5 +3,5 @@ use Rattle.nvms.proofs.device.EightLineNvm.lines_by_age.Goals as goal
 
 pub returns : goal.returns
 returns c =
-    let e = c.unsettled-lines.ensures in
+    let e = c.unsettled_lines.ensures in
     record { lines = e.lines; exact = e.exact; few = omega (arith, ap length e.lines, c.args.self.now.few) }

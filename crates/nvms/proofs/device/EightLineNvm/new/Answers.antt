@@ -8,16 +8,16 @@ use Rattle.nvm_words.specs.Made.{made_lines}
 use Rattle.nvms.specs.Natures.{surplus_settled}
 use Rattle.nvms.proofs.device.EightLineNvm.new.Goals as goal
 
-pub invariant-of-result : goal.invariant-of-result
-invariant-of-result c =
-    let ls = unsettled_lines c.in-ok-words.words in
-    (omega (arith, ap length c.settle-surplus.ensures.lines, length-drop (length ls - 8) ls), tt)
+pub invariant_of-result : goal.invariant_of-result
+invariant_of-result c =
+    let ls = unsettled_lines c.in_ok-words.words in
+    (omega (arith, ap length c.settle_surplus.ensures.lines, length-drop (length ls - 8) ls), tt)
 
 pub returns : goal.returns
 returns c =
-    let made = c.in-ok-words.ensures in
-    let became = c.settle-surplus.ensures in
-    let n = c.in-ok-words.words in
+    let made = c.in_ok-words.ensures in
+    let became = c.settle_surplus.ensures in
+    let n = c.in_ok-words.words in
     let lines = made_lines c.args.settled.items c.args.present.items c.args.marks.items in
     record {
       state = same_state _ _

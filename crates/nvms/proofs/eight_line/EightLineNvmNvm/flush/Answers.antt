@@ -15,5 +15,5 @@ returns c =
       lines = e.lines ∙ same_either (is_ok c.flush.result) (unsettled_lines c.args.self.now.words);
     }
 
-pub invariant-of-self : goal.invariant-of-self
-invariant-of-self c = (subst (λ (xs : List ℕ). length xs ≤ 8) (sym c.flush.ensures.lines) c.args.self.now.few, tt)
+pub invariant_of-self : goal.invariant_of-self
+invariant_of-self c = (subst (λ (xs : List ℕ). length xs ≤ 8) (sym c.flush.ensures.lines) c.args.self.now.few, tt)

@@ -22,15 +22,15 @@ stored n n₁ n₂ n₃ x v passed room put =
     (ap (λ (ls : List ℕ). with_line ls (x / 8)) (room.lines ∙ ap (λ (ls : List ℕ). room_for ls (x / 8)) passed.paid.lines))
     (became_then n₁ n₂ n₃ n₁.supply n₂.supply (room_made (unsettled_lines n₁) (x / 8)) (nvm_makes (Store x v)) (room_for (unsettled_lines n₁) (x / 8)) (with_line (unsettled_lines n₂) (x / 8)) room put)
 
-pub returns-in-err-admit-store : goal.returns-in-err-admit-store
-returns-in-err-admit-store c =
+pub returns-in_err-admit_store : goal.returns-in_err-admit_store
+returns-in_err-admit_store c =
     let a = Store c.args.word c.args.value in
     let n = c.args.self.now.words in
     let ls = unsettled_lines n in
-    let t = simulated_nvm c.admit-store.new.self in
-    let r = c.from-residual.result in
-    let failed = c.in-err-admit-store.ensures in
-    let is = broke r _ c.from-residual.ensures.1 in
+    let t = simulated_nvm c.admit_store.new.self in
+    let r = c.from_residual.result in
+    let failed = c.in_err-admit_store.ensures in
+    let is = broke r _ c.from_residual.ensures.1 in
     let answer = is ∙ failed.answer in
     let nature = failed.state (eight_line_makes ls a) in
     record {
@@ -40,10 +40,10 @@ returns-in-err-admit-store c =
       lines = failed.lines ∙ ap (λ (q : Result (Unit {0}) Refusal). cond (is_ok q) (lines_after ls a (meant n).piece) ls) (sym is);
     }
 
-pub invariant-of-self-2 : goal.invariant-of-self-2
-invariant-of-self-2 c =
+pub invariant_of-self-2 : goal.invariant_of-self-2
+invariant_of-self-2 c =
     let n = c.args.self.now.words in
-    let done = stored n c.admit-store.new.self c.make-room.new.words c.put.new.self c.args.word c.args.value c.in-ok-admit-store.ensures c.make-room.ensures c.put.ensures in
+    let done = stored n c.admit_store.new.self c.make_room.new.words c.put.new.self c.args.word c.args.value c.in_ok-admit_store.ensures c.make_room.ensures c.put.ensures in
     (subst (λ (xs : List ℕ). length xs ≤ 8) (sym done.lines) (few_after (unsettled_lines n) (c.args.word / 8) c.args.self.now.few), tt)
 
 pub returns : goal.returns
@@ -51,10 +51,10 @@ returns c =
     let a = Store c.args.word c.args.value in
     let n = c.args.self.now.words in
     let ls = unsettled_lines n in
-    let n₁ = c.admit-store.new.self in
+    let n₁ = c.admit_store.new.self in
     let n₃ = c.put.new.self in
-    let passed = c.in-ok-admit-store.ensures in
-    let done = stored n n₁ c.make-room.new.words n₃ c.args.word c.args.value passed c.make-room.ensures c.put.ensures in
+    let passed = c.in_ok-admit_store.ensures in
+    let done = stored n n₁ c.make_room.new.words n₃ c.args.word c.args.value passed c.make_room.ensures c.put.ensures in
     let answer = performed_ok n n₁ n₃ (Store c.args.word 0) (eight_line_makes ls a) _ passed done in
     let nature = performed n n₁ n₃ (Store c.args.word 0) (eight_line_makes ls a) _ passed done in
     record {

@@ -2,9 +2,9 @@ use Rattle.std.proofs.Common.{◌≡◌, ◌≤◌, true, vec_len, vec_capacity,
 use Rattle.ringlaws.specs.TxnInfo.{numbers_of, distinct}
 use Rattle.settings.proofs.kept.Settings.clear.Goals as goal
 
-pub invariant-of-self : goal.invariant-of-self
+pub invariant_of-self : goal.invariant_of-self
 unfolding distinct
-invariant-of-self c =
+invariant_of-self c =
     let few : vec_len c.clear.new.self ≤ 30 = omega (arith, c.clear.ensures.len) in
     let cap = c.clear.ensures.capacity in
     let old = c.args.self.now.room in

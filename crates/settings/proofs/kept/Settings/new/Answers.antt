@@ -2,9 +2,9 @@ use Rattle.std.proofs.Common.{◌≡◌, ◌≤◌, vec_len, vec_capacity, refl,
 use Rattle.ringlaws.specs.TxnInfo.{numbers_of, distinct}
 use Rattle.settings.proofs.kept.Settings.new.Goals as goal
 
-pub invariant-of-result : goal.invariant-of-result
+pub invariant_of-result : goal.invariant_of-result
 unfolding distinct
-invariant-of-result c =
+invariant_of-result c =
     let m = c.in-Ok.ensures in
     let few : vec_len c.in-Ok.list ≤ 30 = omega (arith, m.len) in
     (few, (m.capacity, (ap (λ t. distinct (numbers_of t)) m.items ∙ refl, tt)))

@@ -4,42 +4,42 @@ use Rattle.settings.specs.Puts.{list_of}
 use Rattle.settings.proofs.Positions.{found, missed, within, listed, put_there, put_last, put_apart, passes_again, passes_new, too_many}
 use Rattle.settings.proofs.kept.Settings.put.Goals as goal
 
-pub index-mut-requires : goal.index-mut-requires
-index-mut-requires c =
-    let h = within (found c.args.number c.in-Some.i c.as-slice.result.now (list_of c.args.self.now) c.as-slice.ensures.value c.in-Some.ensures) in
+pub index_mut-requires : goal.index_mut-requires
+index_mut-requires c =
+    let h = within (found c.args.number c.in-Some.i c.as_slice.result.now (list_of c.args.self.now) c.as_slice.ensures.value c.in-Some.ensures) in
     omega (arith, c.args.self.now.list.ok.0)
 
-pub invariant-of-self : goal.invariant-of-self
-invariant-of-self c =
+pub invariant_of-self : goal.invariant_of-self
+invariant_of-self c =
     let t = list_of c.args.self.now in
-    let at = found c.args.number c.in-Some.i c.as-slice.result.now t c.as-slice.ensures.value c.in-Some.ensures in
+    let at = found c.args.number c.in-Some.i c.as_slice.result.now t c.as_slice.ensures.value c.in-Some.ensures in
     (c.args.self.now.few, (c.args.self.now.room, (ap (λ l. distinct (numbers_of l)) (sym (put_there at c.args.unit.now)) ∙ put_apart c.args.number t c.args.unit.now c.args.self.now.apart, tt)))
 
 pub returns-in-Some : goal.returns-in-Some
 returns-in-Some c =
     let t = list_of c.args.self.now in
-    let at = found c.args.number c.in-Some.i c.as-slice.result.now t c.as-slice.ensures.value c.in-Some.ensures in
+    let at = found c.args.number c.in-Some.i c.as_slice.result.now t c.as_slice.ensures.value c.in-Some.ensures in
     (passes_again c.args.blocks c.args.number t c.if-number-blocks.false (listed at), sym (put_there at c.args.unit.now))
 
 pub returns-then-len-ge-MOST : goal.returns-then-len-ge-MOST
 returns-then-len-ge-MOST c =
     let t = list_of c.args.self.now in
-    let fresh = missed c.args.number c.as-slice.result.now t c.as-slice.ensures.value c.in-None.ensures in
+    let fresh = missed c.args.number c.as_slice.result.now t c.as_slice.ensures.value c.in-None.ensures in
     let many : 30 ≤ length t = omega (arith, c.args.self.now.list.ok.0, c.len.ensures, c.if-len-ge-MOST.true) in
     (too_many c.args.blocks c.args.number t c.if-number-blocks.false fresh many, refl)
 
-pub invariant-of-self-in-None : goal.invariant-of-self-in-None
-invariant-of-self-in-None c =
+pub invariant_of-self-in-None : goal.invariant_of-self-in-None
+invariant_of-self-in-None c =
     let t = list_of c.args.self.now in
-    let fresh = missed c.args.number c.as-slice.result.now t c.as-slice.ensures.value c.in-None.ensures in
-    let few : vec_len c.push-reserved.new.self ≤ 30 = omega (arith, c.push-reserved.ensures.len, c.len.ensures, c.if-len-ge-MOST.false) in
-    let cap = c.push-reserved.ensures.capacity in
-    let room : 30 ≤ vec_capacity c.push-reserved.new.self = omega (arith, c.args.self.now.room) in
-    (few, (room, (ap (λ l. distinct (numbers_of l)) (c.push-reserved.ensures.items ∙ sym (put_last c.args.number t c.args.unit.now fresh)) ∙ put_apart c.args.number t c.args.unit.now c.args.self.now.apart, tt)))
+    let fresh = missed c.args.number c.as_slice.result.now t c.as_slice.ensures.value c.in-None.ensures in
+    let few : vec_len c.push_reserved.new.self ≤ 30 = omega (arith, c.push_reserved.ensures.len, c.len.ensures, c.if-len-ge-MOST.false) in
+    let cap = c.push_reserved.ensures.capacity in
+    let room : 30 ≤ vec_capacity c.push_reserved.new.self = omega (arith, c.args.self.now.room) in
+    (few, (room, (ap (λ l. distinct (numbers_of l)) (c.push_reserved.ensures.items ∙ sym (put_last c.args.number t c.args.unit.now fresh)) ∙ put_apart c.args.number t c.args.unit.now c.args.self.now.apart, tt)))
 
 pub returns-else-len-ge-MOST : goal.returns-else-len-ge-MOST
 returns-else-len-ge-MOST c =
     let t = list_of c.args.self.now in
-    let fresh = missed c.args.number c.as-slice.result.now t c.as-slice.ensures.value c.in-None.ensures in
+    let fresh = missed c.args.number c.as_slice.result.now t c.as_slice.ensures.value c.in-None.ensures in
     let few : length t < 30 = omega (arith, c.args.self.now.list.ok.0, c.len.ensures, c.if-len-ge-MOST.false) in
-    (passes_new c.args.blocks c.args.number t c.if-number-blocks.false fresh few, c.push-reserved.ensures.items ∙ sym (put_last c.args.number t c.args.unit.now fresh))
+    (passes_new c.args.blocks c.args.number t c.if-number-blocks.false fresh few, c.push_reserved.ensures.items ∙ sym (put_last c.args.number t c.args.unit.now fresh))

@@ -5,14 +5,14 @@ use Rattle.settings.proofs.kept.Settings.unit_of.Goals as goal
 
 pub index-requires : goal.index-requires
 index-requires c =
-    let h = within (found c.args.number c.in-Some.i c.as-slice.result.now (list_of c.args.self.now) c.as-slice.ensures.value c.in-Some.ensures) in
+    let h = within (found c.args.number c.in-Some.i c.as_slice.result.now (list_of c.args.self.now) c.as_slice.ensures.value c.in-Some.ensures) in
     omega (arith, c.args.self.now.list.ok.0)
 
 pub returns-in-Some : goal.returns-in-Some
 returns-in-Some c =
     ap (λ s. Some s.unit) c.index.ensures
-    ∙ sym (set_there (found c.args.number c.in-Some.i c.as-slice.result.now (list_of c.args.self.now) c.as-slice.ensures.value c.in-Some.ensures) c.index.result.now)
+    ∙ sym (set_there (found c.args.number c.in-Some.i c.as_slice.result.now (list_of c.args.self.now) c.as_slice.ensures.value c.in-Some.ensures) c.index.result.now)
 
 pub returns-in-None : goal.returns-in-None
 returns-in-None c =
-    sym (unset c.args.number (list_of c.args.self.now) (missed c.args.number c.as-slice.result.now (list_of c.args.self.now) c.as-slice.ensures.value c.in-None.ensures))
+    sym (unset c.args.number (list_of c.args.self.now) (missed c.args.number c.as_slice.result.now (list_of c.args.self.now) c.as_slice.ensures.value c.in-None.ensures))

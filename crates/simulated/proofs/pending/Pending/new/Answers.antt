@@ -11,8 +11,8 @@ empty : (queue : List ℕ) → queue ≡ [] → distinct queue ≡ true
 unfolding distinct
 empty queue q = ap distinct q
 
-pub invariant-of-result : goal.invariant-of-result
-invariant-of-result c =
+pub invariant_of-result : goal.invariant_of-result
+invariant_of-result c =
     let h = c.in-Ok.ensures in
-    let k = c.in-Ok-with-capacity.ensures in
-    (h.made.1, (k.capacity, (none _ _ c.args.size (h.exact (λ y e. e)) k.items, (empty _ k.items, tt))))
+    let k = c.in-Ok-with_capacity.ensures in
+    record { long = h.len; room = k.capacity; flagged = none _ _ c.args.size (h.items_if_clones_equal (λ y e. e)) k.items; once = empty _ k.items }

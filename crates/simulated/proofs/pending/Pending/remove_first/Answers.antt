@@ -30,22 +30,13 @@ without (x ∷ xs) = refl
 some : (p : Pending) → false ≡ eqb p.queue.len 0 → 0 < length p.queue.items
 some p e = let ne = eqb-false p.queue.len 0 (sym e) in omega (arith, p.queue.ok.0, ne)
 
-pub index-mut-requires : goal.index-mut-requires
-index-mut-requires c =
+pub index_mut-requires : goal.index_mut-requires
+index_mut-requires c =
     let p = c.args.self.now in
-    omega (arith, first_flagged p.flags.items p.queue.items c.remove-b.result p.flagged (some p c.if-not-is-empty.ensures) c.remove-b.ensures.value, p.flags.ok.0)
+    omega (arith, first_flagged p.flags.items p.queue.items c.remove-b.result p.flagged (some p c.if-not-is_empty.ensures) c.remove-b.ensures.value, p.flags.ok.0)
 
-pub invariant-of-self : goal.invariant-of-self
-invariant-of-self c =
+pub invariant_of-self : goal.invariant_of-self
+invariant_of-self c =
     let p = c.args.self.now in
     let e = c.remove-b.ensures in
-    let l = some p c.if-not-is-empty.ensures in (
-      p.long,
-      (
-        omega (arith, e.capacity, p.room),
-        (
-          (λ b. flags_rest p.flags.items p.queue.items c.remove-b.result p.flagged p.once l e.value b ∙ sym (ap (member b) e.items)),
-          (ap distinct e.items ∙ distinct_rest p.queue.items c.remove-b.result p.once l e.value, tt),
-        ),
-      ),
-    )
+    let l = some p c.if-not-is_empty.ensures in record { long = p.long; room = omega (arith, e.capacity, p.room); flagged = (λ b. flags_rest p.flags.items p.queue.items c.remove-b.result p.flagged p.once l e.value b ∙ sym (ap (member b) e.items)); once = ap distinct e.items ∙ distinct_rest p.queue.items c.remove-b.result p.once l e.value }

@@ -7,19 +7,19 @@ use Rattle.store.specs.Called.{seen}
 use Rattle.store.proofs.Admitted.{goes, refused, puts}
 use Rattle.store.proofs.store.Store.clear_now.Goals as goal
 
-pub returns-in-err-admit : goal.returns-in-err-admit
-returns-in-err-admit g c =
+pub returns-in_err-admit : goal.returns-in_err-admit
+returns-in_err-admit g c =
     refused (kind_of g.K.RecordKind.unit g.K.RecordKind.reads) g.met.K.RecordKind.whole
     (seen (g.N.Nvm.meaning c.args.self.now.nvm) (g.D.Disk.meaning c.args.self.now.disk) c.args.self.now.state (list_of c.args.self.now.settings))
     (record { nvm = g.met.N.Nvm.ends c.args.self.now.nvm; disk = g.met.D.Disk.ends c.args.self.now.disk })
-    (Clear c.args.number) c.in-err-admit.field-0.0 c.in-err-admit.ensures c.from-residual.result c.from-residual.ensures.1
+    (Clear c.args.number) c.in_err-admit.field-0.0 c.in_err-admit.ensures c.from_residual.result c.from_residual.ensures.1
 
 pub returns : goal.returns
 returns g c =
     goes (kind_of g.K.RecordKind.unit g.K.RecordKind.reads) g.met.K.RecordKind.whole
     (seen (g.N.Nvm.meaning c.args.self.now.nvm) (g.D.Disk.meaning c.args.self.now.disk) c.args.self.now.state (list_of c.args.self.now.settings))
     (record { nvm = g.met.N.Nvm.ends c.args.self.now.nvm; disk = g.met.D.Disk.ends c.args.self.now.disk })
-    (Clear c.args.number) c.in-ok-admit.ensures _ _
+    (Clear c.args.number) c.in_ok-admit.ensures _ _
     (λ lit. puts (kind_of g.K.RecordKind.unit g.K.RecordKind.reads)
     (seen (g.N.Nvm.meaning c.args.self.now.nvm) (g.D.Disk.meaning c.args.self.now.disk) c.args.self.now.state (list_of c.args.self.now.settings))
     c.args.number zero_unit (list_of c.put.new.self) lit c.blocks-2.result zero_unit c.put.result c.blocks-2.ensures refl c.put.ensures)

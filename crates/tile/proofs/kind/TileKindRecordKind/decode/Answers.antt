@@ -9,4 +9,4 @@ returns-then-words-ne1 c =
 pub returns : goal.returns
 returns c =
     c.ok.ensures.value
-    ∙ made_reads c.args.words.now c.levels-in-levels.result c.new.result c.told-words c.if-words-ne1.false c.fits-words c.levels-in-levels.ensures c.new.ensures
+    ∙ made_reads c.args.words.now c.levels_in-levels.result c.new.result c.told-words c.if-words-ne1.false c.fits-words c.levels_in-levels.ensures c.new.ensures

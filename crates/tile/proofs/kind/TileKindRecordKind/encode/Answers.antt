@@ -6,19 +6,19 @@ pub loop-k-preserved : goal.loop-k-preserved
 loop-k-preserved c =
     let at : ℕ = 4 + c.loop-k.k in
     let lt : at < length c.loop-k.place = omega (arith, c.loop-k.invariant.0) in
-    let kept : (i : ℕ) → i ≢ at → _ = λ i ne. get_or-set_other c.loop-k.place at i c.level-word.result 0 ne in
+    let kept : (i : ℕ) → i ≢ at → _ = λ i ne. get_or-set_other c.loop-k.place at i c.level_word.result 0 ne in
     let ne0 : 0 ≢ at = omega arith in
     let ne1 : 1 ≢ at = omega arith in
     let ne2 : 2 ≢ at = omega arith in
     let ne3 : 3 ≢ at = omega arith in (
-      length-set c.loop-k.place at c.level-word.result ∙ c.loop-k.invariant.0,
+      length-set c.loop-k.place at c.level_word.result ∙ c.loop-k.invariant.0,
       kept 0 ne0 ∙ c.loop-k.invariant.1,
       kept 1 ne1 ∙ c.loop-k.invariant.2,
       kept 2 ne2 ∙ c.loop-k.invariant.3,
       kept 3 ne3 ∙ c.loop-k.invariant.4,
       below_more _ _
           (λ i h. let ne : 4 + i ≢ at = omega arith in kept (4 + i) ne ∙ c.loop-k.invariant.5 i h)
-          (get_or-set_same c.loop-k.place at c.level-word.result 0 lt ∙ c.level-word.ensures),
+          (get_or-set_same c.loop-k.place at c.level_word.result 0 lt ∙ c.level_word.ensures),
     )
 
 pub returns : goal.returns
