@@ -10,7 +10,7 @@ use refusal::reason::Refusal;
 
 /// Writes the first `blocks` blocks with zeros, and syncs.
 pub fn zero_blocks<D: Disk>(disk: &mut D, blocks: usize) -> Result<(), Refusal>
-    ensures { RanOn disk_rules (meaning disk.old) (zeroing_blocks blocks) result (meaning disk.new) }
+    ensures { RanOn disk_rules (D.meaning disk.old) (zeroing_blocks blocks) result (D.meaning disk.new) }
 {
     write_zeros(disk, blocks)?;
     disk.sync()
@@ -18,7 +18,7 @@ pub fn zero_blocks<D: Disk>(disk: &mut D, blocks: usize) -> Result<(), Refusal>
 
 /// Writes the first `blocks` blocks with zeros.
 fn write_zeros<D: Disk>(disk: &mut D, blocks: usize) -> Result<(), Refusal>
-    ensures { RanOn disk_rules (meaning disk.old) (each_of (λ b. Write b (replicate 512 0) ∷ []) blocks) result (meaning disk.new) }
+    ensures { RanOn disk_rules (D.meaning disk.old) (each_of (λ b. Write b (replicate 512 0) ∷ []) blocks) result (D.meaning disk.new) }
 {
     let zeros = [0u64; 512];
     for block in 0..blocks {

@@ -23,7 +23,7 @@ pub const TAIL_WORD: usize = 16;
 /// Stores the words of a unit at a place. Nothing else stores a place.
 pub fn store_place<N: Nvm>(nvm: &mut N, place: usize, words: &[u64; 32]) -> Result<(), Refusal>
     requires { place < most_places }
-    ensures { RanOn nvm_rules (meaning nvm.old) (storing (32 * (place + 1)) words.now) result (meaning nvm.new) }
+    ensures { RanOn nvm_rules (N.meaning nvm.old) (storing (32 * (place + 1)) words.now) result (N.meaning nvm.new) }
 {
     store_words(nvm, 32 * (place + 1), words)
 }
@@ -39,7 +39,7 @@ fn store_places<N: Nvm>(
     requires tail { tail < places }
     requires few { length settings.now ≤ count_limit }
     requires fits { taken (length settings.now) ≤ places }
-    ensures { RanOn nvm_rules (meaning nvm.old) (placing places tail (units_of settings.now)) result (meaning nvm.new) }
+    ensures { RanOn nvm_rules (N.meaning nvm.old) (placing places tail (units_of settings.now)) result (N.meaning nvm.new) }
 {
     for k in 0..places_taken(settings.len()) {
         let words = place_words(settings, k);
@@ -58,7 +58,7 @@ fn flush_places<N: Nvm>(
     requires most { places ≤ most_places }
     requires tail { tail < places }
     requires fits { count ≤ places }
-    ensures { RanOn nvm_rules (meaning nvm.old) (flushing_places places tail count) result (meaning nvm.new) }
+    ensures { RanOn nvm_rules (N.meaning nvm.old) (flushing_places places tail count) result (N.meaning nvm.new) }
 {
     for k in 0..count {
         flush_lines(nvm, 4 * (place_after(places, tail, k) + 1), 4)?;
@@ -77,7 +77,7 @@ fn lay_places<N: Nvm>(
     requires tail { tail < places }
     requires few { length settings.now ≤ count_limit }
     requires fits { taken (length settings.now) ≤ places }
-    ensures { RanOn nvm_rules (meaning nvm.old) (laying places tail settings.now) result (meaning nvm.new) }
+    ensures { RanOn nvm_rules (N.meaning nvm.old) (laying places tail settings.now) result (N.meaning nvm.new) }
 {
     store_places(nvm, places, tail, settings)?;
     flush_places(nvm, places, tail, places_taken(settings.len()))?;
@@ -96,7 +96,7 @@ pub fn commit_settings<N: Nvm>(
     requires tail { tail < places }
     requires few { length settings.now ≤ count_limit }
     requires fits { taken (length settings.now) ≤ places }
-    ensures { RanCommit places tail settings.now (meaning nvm.old) result (meaning nvm.new) }
+    ensures { RanCommit places tail settings.now (N.meaning nvm.old) result (N.meaning nvm.new) }
 {
     if settings.is_empty() {
         return Ok(());

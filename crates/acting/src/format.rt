@@ -21,7 +21,7 @@ pub const GROUND_MARK: u64 = 0x3C91_E07D_58A2_B46F;
 
 /// Stores words 1 to 31 of unit 0 and makes them last.
 fn store_header<N: Nvm>(nvm: &mut N, places: usize, blocks: usize) -> Result<(), Refusal>
-    ensures { RanOn nvm_rules (meaning nvm.old) (heading_row places blocks) result (meaning nvm.new) }
+    ensures { RanOn nvm_rules (N.meaning nvm.old) (heading_row places blocks) result (N.meaning nvm.new) }
 {
     let mut words = [0u64; 31];
     words[0] = places as u64;

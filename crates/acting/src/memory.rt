@@ -10,7 +10,7 @@ use refusal::reason::Refusal;
 /// Stores words from the word `first` on, the first one first.
 pub(crate) fn store_words<N: Nvm>(nvm: &mut N, first: usize, words: &[u64]) -> Result<(), Refusal>
     requires { first + length words.now < 2 ^ 64 }
-    ensures { RanOn nvm_rules (meaning nvm.old) (storing first words.now) result (meaning nvm.new) }
+    ensures { RanOn nvm_rules (N.meaning nvm.old) (storing first words.now) result (N.meaning nvm.new) }
 {
     for i in 0..words.len() {
         nvm.store(first + i, words[i])?;
@@ -21,7 +21,7 @@ pub(crate) fn store_words<N: Nvm>(nvm: &mut N, first: usize, words: &[u64]) -> R
 /// Flushes `count` lines from the line `first` on.
 pub(crate) fn flush_lines<N: Nvm>(nvm: &mut N, first: usize, count: usize) -> Result<(), Refusal>
     requires { first + count < 2 ^ 64 }
-    ensures { RanOn nvm_rules (meaning nvm.old) (flushing first count) result (meaning nvm.new) }
+    ensures { RanOn nvm_rules (N.meaning nvm.old) (flushing first count) result (N.meaning nvm.new) }
 {
     for i in 0..count {
         nvm.flush(first + i)?;
@@ -31,7 +31,7 @@ pub(crate) fn flush_lines<N: Nvm>(nvm: &mut N, first: usize, count: usize) -> Re
 
 /// Stores a word and makes it last.
 pub fn seal<N: Nvm>(nvm: &mut N, word: usize, value: u64) -> Result<(), Refusal>
-    ensures { RanOn nvm_rules (meaning nvm.old) (sealing word value) result (meaning nvm.new) }
+    ensures { RanOn nvm_rules (N.meaning nvm.old) (sealing word value) result (N.meaning nvm.new) }
 {
     nvm.store(word, value)?;
     nvm.flush(word / 8)?;
@@ -41,7 +41,7 @@ pub fn seal<N: Nvm>(nvm: &mut N, word: usize, value: u64) -> Result<(), Refusal>
 /// Settles the words of `units` units: flushes all their lines, and fences.
 pub(crate) fn settle_units<N: Nvm>(nvm: &mut N, units: usize) -> Result<(), Refusal>
     requires { 4 * units < 2 ^ 64 }
-    ensures { RanOn nvm_rules (meaning nvm.old) (settling units) result (meaning nvm.new) }
+    ensures { RanOn nvm_rules (N.meaning nvm.old) (settling units) result (N.meaning nvm.new) }
 {
     flush_lines(nvm, 0, 4 * units)?;
     nvm.fence()

@@ -22,10 +22,10 @@ const BLOCKS_WORD: usize = 2;
 /// Why a memory with power and so many places is not mounted beside a disk of so many blocks: no ground mark, a wrong header, an
 /// unsound ring, asked in this order. Else head and tail.
 pub fn check_contents<N: Nvm>(nvm: &N, places: usize, blocks: usize) -> Result<Ends, Refusal>
-    requires lit { (meaning nvm.now).dark ≡ false }
-    requires size { (meaning nvm.now).size ≡ places + 1 }
+    requires lit { (N.meaning nvm.now).dark ≡ false }
+    requires size { (N.meaning nvm.now).size ≡ places + 1 }
     requires most { places ≤ most_places }
-    ensures { MatchResult result (λ e. (mount_refusal places blocks (words_of (meaning nvm.now)) ≡ None) × (e.places ≡ places) × (e.head ≡ head_of (words_of (meaning nvm.now))) × (e.tail ≡ tail_of (words_of (meaning nvm.now)))) (λ e. mount_refusal places blocks (words_of (meaning nvm.now)) ≡ Some e) }
+    ensures { MatchResult result (λ e. (mount_refusal places blocks (words_of (N.meaning nvm.now)) ≡ None) × (e.places ≡ places) × (e.head ≡ head_of (words_of (N.meaning nvm.now))) × (e.tail ≡ tail_of (words_of (N.meaning nvm.now)))) (λ e. mount_refusal places blocks (words_of (N.meaning nvm.now)) ≡ Some e) }
 {
     let ends = ring_ends(nvm)?;
     let mark = nvm.load(GROUND_WORD)?;

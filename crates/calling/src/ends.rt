@@ -21,7 +21,7 @@ pub struct Ends {
 
 /// Loads head and tail. A memory with power and a unit 0 has them.
 pub fn ring_ends<N: Nvm>(nvm: &N) -> Result<Ends, Refusal>
-    ensures { MatchResult result (λ e. (e.places ≡ (meaning nvm.now).size - 1) × (e.head ≡ head_of (words_of (meaning nvm.now))) × (e.tail ≡ tail_of (words_of (meaning nvm.now)))) (λ _. (meaning nvm.now).dark ≡ false → 1 ≤ (meaning nvm.now).size → ⊥) }
+    ensures { MatchResult result (λ e. (e.places ≡ (N.meaning nvm.now).size - 1) × (e.head ≡ head_of (words_of (N.meaning nvm.now))) × (e.tail ≡ tail_of (words_of (N.meaning nvm.now)))) (λ _. (N.meaning nvm.now).dark ≡ false → 1 ≤ (N.meaning nvm.now).size → ⊥) }
 {
     let units = nvm.units();
     if units == 0 {

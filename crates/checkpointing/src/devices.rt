@@ -42,7 +42,7 @@ impl Rows {
 
 /// Stores a word and makes it last.
 fn seal<N: Nvm>(nvm: &mut N, word: usize, value: u64) -> Result<(), Refusal>
-    ensures { RanOn nvm_rules (meaning nvm.old) (sealing word value) result (meaning nvm.new) }
+    ensures { RanOn nvm_rules (N.meaning nvm.old) (sealing word value) result (N.meaning nvm.new) }
 {
     nvm.store(word, value)?;
     nvm.flush(word / 8)?;

@@ -45,7 +45,7 @@ pub fn gather<S: Source>(
     slots: &mut [usize; 255],
 ) -> Result<usize, Refusal>
     requires { is_ring places head tail ≡ true }
-    ensures { MatchResult result (λ n. (n < 255) × ((c : Contents) → Agrees (reads source.now) c → (x : ℕ) → newest places c head tail x ≡ place_in numbers.new slots.new n x)) (λ e. WhyRefused (reads source.now) places blocks head tail e) }
+    ensures { MatchResult result (λ n. (n < 255) × ((c : Contents) → Agrees (S.reads source.now) c → (x : ℕ) → newest places c head tail x ≡ place_in numbers.new slots.new n x)) (λ e. WhyRefused (S.reads source.now) places blocks head tail e) }
 {
     let mut count = 0;
     let mut place = tail;

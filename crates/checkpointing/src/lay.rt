@@ -34,7 +34,7 @@ pub fn lay_block<S: Source>(
     buf: &mut [u64; 512],
 ) -> Result<(), Refusal>
     requires { (count ≤ 255) × ((places ≤ 255) × ((block < 4096) × (((x p : ℕ) → place_in numbers.now slots.now count x ≡ Some p → p < places)))) }
-    ensures { MatchResult result (λ _. (c : Contents) → Agrees (reads source.now) c → (k : ℕ) → k < 16 → unit_at (contents_of buf.new) k ≡ unit_from c (place_in numbers.now slots.now count (16 * block + k)) (unit_at (contents_of buf.old) k)) (λ e. RefusesWithin (reads source.now) (places + 1) e) }
+    ensures { MatchResult result (λ _. (c : Contents) → Agrees (S.reads source.now) c → (k : ℕ) → k < 16 → unit_at (contents_of buf.new) k ≡ unit_from c (place_in numbers.now slots.now count (16 * block + k)) (unit_at (contents_of buf.old) k)) (λ e. RefusesWithin (S.reads source.now) (places + 1) e) }
 {
     for i in 0..16 {
         if let Some(place) = place_of(numbers, slots, count, (16 * block + i) as u64) {

@@ -31,7 +31,7 @@ fn find_back<S: Source>(
     number: u64,
 ) -> Result<Option<usize>, Refusal>
     requires { is_ring places head tail ≡ true }
-    ensures { Finds (reads source.now) places head tail number result }
+    ensures { Finds (S.reads source.now) places head tail number result }
 {
     let mut place = tail;
     let mut left = used_between(places, head, tail);
@@ -61,7 +61,7 @@ pub fn find<S: Source>(
     tail: usize,
     number: u64,
 ) -> Result<Option<usize>, Refusal>
-    ensures { Finds (reads source.now) places head tail number result }
+    ensures { Finds (S.reads source.now) places head tail number result }
 {
     if !is_ring(places, head, tail) {
         return Err(Refusal::Beyond);

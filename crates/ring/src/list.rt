@@ -23,7 +23,7 @@ fn read_settings<S: Source>(
     numbers: &[u64],
 ) -> Result<Vec<Setting>, Refusal>
     requires { (places ≤ 255) × ((first < places) × (length numbers.now ≤ places)) }
-    ensures { MatchResult result (λ v. (c : Contents) → Agrees (reads source.now) c → v.items ≡ settings_at places c first 0 numbers.now) (λ e. (e ≡ NoMemory) ⊎ RefusesWithin (reads source.now) (places + 1) e) }
+    ensures { MatchResult result (λ v. (c : Contents) → Agrees (S.reads source.now) c → v.items ≡ settings_at places c first 0 numbers.now) (λ e. (e ≡ NoMemory) ⊎ RefusesWithin (S.reads source.now) (places + 1) e) }
 {
     let mut settings = Vec::new(heap);
     for i in 0..numbers.len() {
@@ -47,7 +47,7 @@ fn list_back<S: Source>(
     tail: usize,
 ) -> Result<Vec<Vec<Setting>>, Refusal>
     requires { is_ring places head tail ≡ true }
-    ensures { Lists (reads source.now) places blocks head tail result }
+    ensures { Lists (S.reads source.now) places blocks head tail result }
 {
     let mut newest_first = Vec::new(heap);
     let mut place = tail;
@@ -75,7 +75,7 @@ pub fn transactions<S: Source>(
     head: usize,
     tail: usize,
 ) -> Result<Vec<Vec<Setting>>, Refusal>
-    ensures { Lists (reads source.now) places blocks head tail result }
+    ensures { Lists (S.reads source.now) places blocks head tail result }
 {
     if !is_ring(places, head, tail) {
         return Err(Refusal::Beyond);

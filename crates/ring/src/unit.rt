@@ -9,7 +9,7 @@ use refusal::reason::Refusal;
 /// The 32 words of a unit.
 pub fn load_unit<S: Source>(source: &S, unit: usize) -> Result<[u64; 32], Refusal>
     requires { unit ≤ 255 }
-    ensures { MatchResult result (λ words. (c : Contents) → Agrees (reads source.now) c → words ≡ unit_at c unit) (λ e. RefusesWithin (reads source.now) (unit + 1) e) }
+    ensures { MatchResult result (λ words. (c : Contents) → Agrees (S.reads source.now) c → words ≡ unit_at c unit) (λ e. RefusesWithin (S.reads source.now) (unit + 1) e) }
 {
     let mut words = [0; 32];
     for i in 0..32 {

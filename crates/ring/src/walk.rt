@@ -19,7 +19,7 @@ pub fn step_back<S: Source>(
     left: usize,
 ) -> Result<Step, Refusal>
     requires { (places ≤ 255) × ((place < places) × (left < places)) }
-    ensures { MatchResult result (λ s. Stepped (reads source.now) places blocks place left s) (λ e. NoStep (reads source.now) places blocks place left e) }
+    ensures { MatchResult result (λ s. Stepped (S.reads source.now) places blocks place left s) (λ e. NoStep (S.reads source.now) places blocks place left e) }
 {
     let info_place = place_before(places, place, 1);
     let info = load_unit(source, info_place + 1)?;
@@ -45,7 +45,7 @@ fn check_back<S: Source>(
     tail: usize,
 ) -> Result<(), Refusal>
     requires { is_ring places head tail ≡ true }
-    ensures { Checks (reads source.now) places blocks head tail result }
+    ensures { Checks (S.reads source.now) places blocks head tail result }
 {
     let mut place = tail;
     let mut left = used_between(places, head, tail);
@@ -66,7 +66,7 @@ pub fn check<S: Source>(
     head: usize,
     tail: usize,
 ) -> Result<(), Refusal>
-    ensures { Checks (reads source.now) places blocks head tail result }
+    ensures { Checks (S.reads source.now) places blocks head tail result }
 {
     if !is_ring(places, head, tail) {
         return Err(Refusal::Beyond);

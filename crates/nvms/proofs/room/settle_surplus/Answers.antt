@@ -13,13 +13,13 @@ loop-i-init c = record { size = refl; power = refl; words = λ w. first_none (un
 pub settle_oldest-requires : goal.settle_oldest-requires
 settle_oldest-requires c =
     let ls = unsettled_lines c.args.words.now in
-    omega (arith, ap length c.loop-i.invariant.lines, length-drop c.loop-i.-i ls, ap length c.unsettled_lines.ensures.lines, c.saturating_sub-surplus.ensures, c.loop-i-test.true)
+    omega (arith, ap length c.loop-i.invariant.lines, length-drop c.loop-i._i ls, ap length c.unsettled_lines.ensures.lines, c.saturating_sub-surplus.ensures, c.loop-i-test.true)
 
 pub loop-i-preserved : goal.loop-i-preserved
 loop-i-preserved c =
     let n = c.args.words.now in
     let ls = unsettled_lines n in
-    let i = c.loop-i.-i in
+    let i = c.loop-i._i in
     let cur = c.loop-i.words in
     let inv = c.loop-i.invariant in
     let lt : i < length ls = omega (arith, ap length c.unsettled_lines.ensures.lines, c.saturating_sub-surplus.ensures, c.loop-i-test.true) in
@@ -32,6 +32,6 @@ pub returns : goal.returns
 returns c =
     let n = c.args.words.now in
     let ls = unsettled_lines n in
-    let i = c.loop-i.-i in
-    let all : i ≡ length ls - 8 = omega (arith, ap length c.unsettled_lines.ensures.lines, c.saturating_sub-surplus.ensures, c.loop-i-test.false, c.loop-i.auto.-i-end) in
+    let i = c.loop-i._i in
+    let all : i ≡ length ls - 8 = omega (arith, ap length c.unsettled_lines.ensures.lines, c.saturating_sub-surplus.ensures, c.loop-i-test.false, c.loop-i.auto._i-end) in
     became_like n c.loop-i.words n.supply n.supply (first_settled i ls) (surplus_settled ls) (drop i ls) (drop (length ls - 8) ls) refl (λ w d. ap (λ k. first_settled k ls w d) all) (ap (λ k. drop k ls) all) c.loop-i.invariant

@@ -11,7 +11,7 @@ use Rattle.nvms.proofs.device.EightLineNvm.new.Goals as goal
 pub invariant_of-result : goal.invariant_of-result
 invariant_of-result c =
     let ls = unsettled_lines c.in_ok-words.words in
-    (omega (arith, ap length c.settle_surplus.ensures.lines, length-drop (length ls - 8) ls), tt)
+    record { few = omega (arith, ap length c.settle_surplus.ensures.lines, length-drop (length ls - 8) ls) }
 
 pub returns : goal.returns
 returns c =

@@ -18,4 +18,4 @@ returns c =
 pub invariant_of-self : goal.invariant_of-self
 invariant_of-self c =
     let n = c.args.self.now.words in
-    (subst (λ (xs : List ℕ). length xs ≤ 8) (sym c.fence.ensures.lines) (few_either (is_ok c.fence.result) (is_unsettled_line (λ w. nvm_makes Fence w ((meant n).piece w))) (unsettled_lines n) c.args.self.now.few), tt)
+    record { few = subst (λ (xs : List ℕ). length xs ≤ 8) (sym c.fence.ensures.lines) (few_either (is_ok c.fence.result) (is_unsettled_line (λ w. nvm_makes Fence w ((meant n).piece w))) (unsettled_lines n) c.args.self.now.few) }

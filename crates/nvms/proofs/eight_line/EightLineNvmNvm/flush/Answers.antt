@@ -16,4 +16,4 @@ returns c =
     }
 
 pub invariant_of-self : goal.invariant_of-self
-invariant_of-self c = (subst (λ (xs : List ℕ). length xs ≤ 8) (sym c.flush.ensures.lines) c.args.self.now.few, tt)
+invariant_of-self c = record { few = subst (λ (xs : List ℕ). length xs ≤ 8) (sym c.flush.ensures.lines) c.args.self.now.few }

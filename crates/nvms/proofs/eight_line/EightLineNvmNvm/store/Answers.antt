@@ -44,7 +44,7 @@ pub invariant_of-self-2 : goal.invariant_of-self-2
 invariant_of-self-2 c =
     let n = c.args.self.now.words in
     let done = stored n c.admit_store.new.self c.make_room.new.words c.put.new.self c.args.word c.args.value c.in_ok-admit_store.ensures c.make_room.ensures c.put.ensures in
-    (subst (λ (xs : List ℕ). length xs ≤ 8) (sym done.lines) (few_after (unsettled_lines n) (c.args.word / 8) c.args.self.now.few), tt)
+    record { few = subst (λ (xs : List ℕ). length xs ≤ 8) (sym done.lines) (few_after (unsettled_lines n) (c.args.word / 8) c.args.self.now.few) }
 
 pub returns : goal.returns
 returns c =

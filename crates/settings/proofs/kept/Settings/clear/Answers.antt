@@ -9,4 +9,4 @@ invariant_of-self c =
     let cap = c.clear.ensures.capacity in
     let old = c.args.self.now.room in
     let room : 30 ≤ vec_capacity c.clear.new.self = omega arith in
-    (few, (room, (ap (λ t. distinct (numbers_of t)) c.clear.ensures.items ∙ refl, tt)))
+    record { few = few; room = room; apart = ap (λ t. distinct (numbers_of t)) c.clear.ensures.items ∙ refl }

@@ -7,4 +7,4 @@ unfolding distinct
 invariant_of-result c =
     let m = c.in-Ok.ensures in
     let few : vec_len c.in-Ok.list ≤ 30 = omega (arith, m.len) in
-    (few, (m.capacity, (ap (λ t. distinct (numbers_of t)) m.items ∙ refl, tt)))
+    record { few = few; room = m.capacity; apart = ap (λ t. distinct (numbers_of t)) m.items ∙ refl }

@@ -13,7 +13,7 @@ pub invariant_of-self : goal.invariant_of-self
 invariant_of-self c =
     let t = list_of c.args.self.now in
     let at = found c.args.number c.in-Some.i c.as_slice.result.now t c.as_slice.ensures.value c.in-Some.ensures in
-    (c.args.self.now.few, (c.args.self.now.room, (ap (λ l. distinct (numbers_of l)) (sym (put_there at c.args.unit.now)) ∙ put_apart c.args.number t c.args.unit.now c.args.self.now.apart, tt)))
+    record { few = c.args.self.now.few; room = c.args.self.now.room; apart = ap (λ l. distinct (numbers_of l)) (sym (put_there at c.args.unit.now)) ∙ put_apart c.args.number t c.args.unit.now c.args.self.now.apart }
 
 pub returns-in-Some : goal.returns-in-Some
 returns-in-Some c =
@@ -35,7 +35,7 @@ invariant_of-self-in-None c =
     let few : vec_len c.push_reserved.new.self ≤ 30 = omega (arith, c.push_reserved.ensures.len, c.len.ensures, c.if-len-ge-MOST.false) in
     let cap = c.push_reserved.ensures.capacity in
     let room : 30 ≤ vec_capacity c.push_reserved.new.self = omega (arith, c.args.self.now.room) in
-    (few, (room, (ap (λ l. distinct (numbers_of l)) (c.push_reserved.ensures.items ∙ sym (put_last c.args.number t c.args.unit.now fresh)) ∙ put_apart c.args.number t c.args.unit.now c.args.self.now.apart, tt)))
+    record { few = few; room = room; apart = ap (λ l. distinct (numbers_of l)) (c.push_reserved.ensures.items ∙ sym (put_last c.args.number t c.args.unit.now fresh)) ∙ put_apart c.args.number t c.args.unit.now c.args.self.now.apart }
 
 pub returns-else-len-ge-MOST : goal.returns-else-len-ge-MOST
 returns-else-len-ge-MOST c =
