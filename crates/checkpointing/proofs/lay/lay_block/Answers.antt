@@ -4,7 +4,7 @@ use Rattle.ring.proofs.Listing.{wider}
 use Rattle.checkpointing.specs.Rows.{place_in}
 use Rattle.checkpointing.proofs.Laying.{Laid, laid_none, laid_passed, laid_here}
 use Rattle.checkpointing.proofs.lay.lay_block.Goals as goal
-use Rattle.checkpointing.proofs.lay.lay_block.Goals.{in-Some+in-ok-words, in_default}
+use Rattle.checkpointing.proofs.lay.lay_block.Goals.{in-Some+in_ok-words, in_default}
 
 pub loop-i-init : goal.loop-i-init
 loop-i-init g c = laid_none (g.S.Source.reads c.args.source.now) (place_in c.args.numbers.now c.args.slots.now c.args.count) c.args.block c.args.buf.now c.told-buf
@@ -15,7 +15,7 @@ loop-i-preserved g c =
     let place = place_in c.args.numbers.now c.args.slots.now c.args.count in
     let P : List ℕ → Type 0 = Laid reads place c.args.block c.args.buf.now (c.loop-i.i + 1) in
     elim c.match-place_of.branch [
-      | in-Some+in-ok-words w ↦ subst P (sym w.buf-is)
+      | in-Some+in_ok-words w ↦ subst P (sym w.buf-is)
           (laid_here reads place c.args.block c.args.buf.now c.loop-i.i w.in-Some.place w.in_ok-words.words c.loop-i.buf w.fill.new.image
           (sym c.place_of.ensures ∙ w.in-Some.is) w.in_ok-words.ensures w.fill.ensures c.loop-i.invariant)
       | in_default w ↦ subst P (sym w.buf-is)

@@ -3,7 +3,7 @@ use Rattle.std.proofs.lemmas.Bool.{eqb-true, eqb-false}
 use Rattle.lines.specs.Numerals.{word_after}
 use Rattle.lines.proofs.Reading.{read_back, word_none, word_some, at_digit, at_over, at_other, at_end}
 use Rattle.lines.proofs.numeral.number.Goals as goal
-use Rattle.lines.proofs.numeral.number.Goals.{then-c-lt-FIRST_DIGIT-via-then-c-lt-FIRST_DIGIT, then-c-lt-FIRST-DIGIT-via-else-c-lt-FIRST-DIGIT+then-c-gt-LAST-DIGIT}
+use Rattle.lines.proofs.numeral.number.Goals.{then-c-lt-FIRST_DIGIT-via-then-c-lt-FIRST_DIGIT, then-c-lt-FIRST_DIGIT-via-else-c-lt-FIRST_DIGIT+then-c-gt-LAST_DIGIT}
 
 pub returns-then-is_empty : goal.returns-then-is_empty
 returns-then-is_empty c =
@@ -17,7 +17,7 @@ returns-then-c-lt-FIRST_DIGIT c =
     record {
       value =
           sym (c.loop-c.invariant.1 ∙ at_other c.args.word.now c.loop-c.c-index c.loop-c.value c.loop-c-test.true
-          (elim c.then-c-lt-FIRST_DIGIT.branch [ then-c-lt-FIRST_DIGIT-via-then-c-lt-FIRST_DIGIT w ↦ inl w.if-c-lt-FIRST_DIGIT.true | then-c-lt-FIRST-DIGIT-via-else-c-lt-FIRST-DIGIT+then-c-gt-LAST-DIGIT w ↦ inr w.if-c-gt-LAST_DIGIT.true ]));
+          (elim c.then-c-lt-FIRST_DIGIT.branch [ then-c-lt-FIRST_DIGIT-via-then-c-lt-FIRST_DIGIT w ↦ inl w.if-c-lt-FIRST_DIGIT.true | then-c-lt-FIRST_DIGIT-via-else-c-lt-FIRST_DIGIT+then-c-gt-LAST_DIGIT w ↦ inr w.if-c-gt-LAST_DIGIT.true ]));
       law = read_back;
     }
 
