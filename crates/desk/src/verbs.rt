@@ -55,7 +55,7 @@ fn with_number(verb: &[u8], n: u64) -> Option<Verb> {
 
 /// A line of a verb, a field and a number.
 fn with_two(verb: &[u8], first: &[u8], value: u64) -> Option<Verb> {
-    if verb == b"restart" {
+    if verb == b"restart".as_slice() {
         return match first {
             b"old" => Some(Verb::Restart {
                 new: false,
