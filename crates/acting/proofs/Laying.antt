@@ -1,5 +1,5 @@
 -- The acts of a commit: the places of a transaction, and then its tail. Assumes nothing.
-use Rattle.std.proofs.Common.{◌≡◌, ℕ, ◌+◌, ◌*◌, ◌<◌, List, [], ◌∷◌, ◌++◌, map, length, get_or, IsErrAnd, Ok, Err, Result, sym, refl, ap, ◌∙◌, subst, arith}
+use Rattle.std.proofs.Common.{◌≡◌, ℕ, ◌<◌, List, [], ◌∷◌, ◌++◌, map, length, IsErrAnd, Ok, Result, sym, subst, arith}
 use Rattle.refusal.specs.declared.reason.Refusal.{Refusal}
 use Rattle.device.specs.Words.{NvmMeaning, NvmAct, nvm_rules}
 use Rattle.crash.specs.Runs.{done}
@@ -8,9 +8,8 @@ use Rattle.crash.specs.Rows.{sealing}
 use Rattle.crash.specs.Pair.{both, on_nvm, RanPair}
 use Rattle.crash.proofs.Runs.{stopped_first}
 use Rattle.crash.proofs.Pairs.{nvm_performed, nvm_ran}
-use Rattle.ringlaws.specs.Layout.{tail_word, tail_of, after}
+use Rattle.ringlaws.specs.Layout.{tail_word, after}
 use Rattle.ringlaws.specs.TxnInfo.{Transaction, taken}
-use Rattle.calls.specs.Acts.{sealing_word, commit_acts}
 use Rattle.acting.specs.Commits.{laying, RanCommit}
 use Rattle.acting.proofs.Running.{pair_broken, pair_at_last, nvm_halted}
 

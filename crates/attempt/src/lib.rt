@@ -1,4 +1,6 @@
 //! Clients of the store's ticket: one tries a setting and gives the transaction up, one gives back a ticket that may be held.
+#![tactic(auto)]
+
 ghost use Rattle.std.specs.Prelude.{◌≡◌, IfSome};
 ghost use Rattle.order.specs.Order.{kind_of};
 ghost use Rattle.settings.specs.Puts.{list_of};

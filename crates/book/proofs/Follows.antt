@@ -1,14 +1,8 @@
 -- How a machine and its book go together: with power, and while it is dark.
-use Rattle.std.proofs.Common.{◌≡◌, ℕ, ◌+◌, ◌<◌, ◌≤◌, Bool, true, false, cond, not, ◌&&◌, ◌||◌, ◌⊎◌, List, [], ◌∷◌, ◌++◌, length, Some, None, Option, unwrap_or, sym, refl, ap, ◌∙◌, subst, inl, inr, arith}
-use Rattle.device.specs.Devices.{Meaning, Restarted}
-use Rattle.device.specs.Words.{nvm_rules}
-use Rattle.device.specs.Sectors.{disk_rules}
-use Rattle.crash.specs.Runs.{Performed, done, then}
-use Rattle.crash.specs.Pair.{Pair, is_dark, PairRestarted, PerformedPair}
-use Rattle.ringlaws.specs.Layout.{records_of}
+use Rattle.std.proofs.Common.{◌≡◌, ℕ, true, false, ◌⊎◌, List, [], ◌∷◌, ◌++◌, unwrap_or, sym, ap, ◌∙◌}
+use Rattle.crash.specs.Pair.{Pair, is_dark, PairRestarted}
 use Rattle.ringlaws.specs.TxnInfo.{Transaction}
-use Rattle.ringlaws.specs.Spells.{Spells, AllFair, Fair, written}
-use Rattle.ringlaws.specs.Newest.{setting_of, latest, lay, laid, or_else}
+use Rattle.ringlaws.specs.Newest.{setting_of, lay}
 use Rattle.calls.specs.declared.state.State.{State}
 use Rattle.calls.specs.declared.state.State.TheVariants.{Unmounted}
 use Rattle.calls.specs.declared.call.Call.{Call}
@@ -18,7 +12,7 @@ use Rattle.calls.specs.Plans.{Machine, Kind, places_of, blocks_of}
 use Rattle.calllaws.specs.Holds.{Keeps}
 use Rattle.calllaws.proofs.Commits.{laid_push}
 use Rattle.book.specs.Book.{Book, next}
-use Rattle.book.specs.Commits.{Fate, done as accepted, cutOff, Tally, tally_call, Kept, none, takes, leaves, WholeAndInOrder}
+use Rattle.book.specs.Commits.{Fate, cutOff, Tally, tally_call, Kept, none, takes, leaves, WholeAndInOrder}
 use Rattle.book.specs.Promise.{Right}
 use Rattle.book.proofs.Goods.{Readable, EachReadable, Good}
 

@@ -1,18 +1,16 @@
 -- The settings of an open transaction stay fit to be committed and to be read.
-use Rattle.std.proofs.Common.{◌≡◌, ℕ, suc, ◌+◌, ◌<◌, ◌≤◌, Bool, true, false, cond, not, ◌&&◌, ◌||◌, eqb, ltb, ◌⊎◌, List, [], ◌∷◌, ◌++◌, map, length, Some, None, Option, unwrap_or, sym, refl, ap, ◌∙◌, subst, inl, inr, arith, length-append}
+use Rattle.std.proofs.Common.{◌≡◌, ℕ, ◌<◌, ◌≤◌, Bool, true, false, cond, eqb, ltb, ◌⊎◌, List, [], ◌∷◌, ◌++◌, length, Some, Option, unwrap_or, sym, refl, ap, ◌∙◌, subst, inl, inr, arith, length-append}
 use Rattle.std.proofs.lemmas.List.{length-map}
-use Rattle.std.proofs.lemmas.Bool.{cond-true, cond-false, cases_Bool, eqb-true, ltb-true, both_ways, or_parts, or_cases, or_from, and_parts, and_from, not-true, eq-eqb}
-use Rattle.refusal.specs.declared.reason.Refusal.{Refusal}
+use Rattle.std.proofs.lemmas.Bool.{cond-true, cond-false, cases_Bool, ltb-true, both_ways, or_cases}
 use Rattle.refusal.specs.declared.reason.Refusal.TheVariants.{ForeignUnit}
 use Rattle.ringlaws.specs.declared.setting.Setting.{Setting}
 use Rattle.ringlaws.specs.Layout.{records_of}
 use Rattle.ringlaws.specs.TxnInfo.{Transaction, numbers_of, record_units, count_limit, member, distinct, all_below, all_zero}
 use Rattle.ringlaws.specs.Spells.{Whole, Fair}
 use Rattle.ringlaws.specs.Newest.{setting_of, lay}
-use Rattle.calls.specs.declared.answer.Answer.{Answer}
-use Rattle.calls.specs.declared.answer.Answer.TheVariants.{Refused, Absent, Found}
+use Rattle.calls.specs.declared.answer.Answer.TheVariants.{Refused, Absent}
 use Rattle.calls.specs.Table.{zero_unit}
-use Rattle.calls.specs.Plans.{Kind, put, may_put, set_refusal, read_by, read_unit}
+use Rattle.calls.specs.Plans.{Kind, put, may_put, read_by, read_unit}
 use Rattle.order.proofs.Settings.{put_again, put_new, below_snoc, distinct_snoc}
 use Rattle.book.specs.Promise.{Lawful}
 

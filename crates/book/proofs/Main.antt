@@ -1,16 +1,11 @@
 -- Every run, from an accepted format on, keeps the book.
-use Rattle.std.proofs.Common.{◌≡◌, ℕ, zero, suc, ◌+◌, ◌-◌, ◌<◌, ◌≤◌, Bool, true, false, cond, not, ◌&&◌, ◌||◌, ltb, leb, ◌⊎◌, List, [], ◌∷◌, ◌++◌, Some, None, Option, sym, refl, ap, ◌∙◌, subst, inl, inr, arith}
+use Rattle.std.proofs.Common.{◌≡◌, ℕ, zero, suc, ◌+◌, ◌<◌, ◌≤◌, Bool, true, false, cond, not, ◌&&◌, ◌||◌, ltb, leb, ◌⊎◌, List, [], ◌∷◌, ◌++◌, sym, refl, ap, ◌∙◌, subst, inl, inr, arith}
 use Rattle.std.specs.Str.{bytes_eq}
-use Rattle.std.proofs.lemmas.Bool.{cond-true, cond-false, both_ways, cases_Bool, cases_eq, and_parts, and_from, and_left, and_right, ltb-true, leb-true}
+use Rattle.std.proofs.lemmas.Bool.{cond-true, cond-false, both_ways, cases_eq, and_parts, and_from, and_left, and_right, ltb-true, leb-true}
 use Rattle.std.proofs.lemmas.Slice.Eq.{bytes_eq-Decides}
-use Rattle.refusal.specs.declared.reason.Refusal.{Refusal}
-use Rattle.refusal.specs.declared.reason.Refusal.TheVariants.{Dark, NotMounted, NoSuchRecord, ForeignUnit, Mounted, BadSize}
-use Rattle.refusal.specs.Numbers.{number_of}
-use Rattle.device.specs.Devices.{Restarted}
-use Rattle.device.specs.Words.{nvm_rules, words_of}
-use Rattle.device.specs.Sectors.{disk_rules, sectors_of}
-use Rattle.crash.specs.Acts.{Rests, contents}
-use Rattle.crash.specs.Pair.{Pair, is_dark, PairRestarted, PairRests, PerformedPair}
+use Rattle.refusal.specs.declared.reason.Refusal.TheVariants.{Dark, NoSuchRecord, ForeignUnit, BadSize}
+use Rattle.device.specs.Sectors.{sectors_of}
+use Rattle.crash.specs.Pair.{Pair, is_dark, PairRestarted, PerformedPair}
 use Rattle.crash.proofs.Steps.{back_settled}
 use Rattle.ringlaws.specs.Layout.{records_of, least_places, most_places, most_blocks}
 use Rattle.ringlaws.specs.TxnInfo.{Transaction}
@@ -24,9 +19,9 @@ use Rattle.calls.specs.declared.answer.Answer.TheVariants.{Refused, Done, Blocks
 use Rattle.calls.specs.Table.{table, zero_unit}
 use Rattle.calls.specs.Acts.{format_acts}
 use Rattle.calls.specs.Judge.{judge}
-use Rattle.calls.specs.Plans.{Machine, Kind, Plan, places_of, blocks_of, table_of, read_unit, fit_sizes, refusing, plan_of}
+use Rattle.calls.specs.Plans.{Machine, Kind, places_of, blocks_of, table_of, read_unit, fit_sizes, refusing, plan_of}
 use Rattle.calls.specs.Steps.{Step, was_dark, went, went_dark, Went, MachineRestarted}
-use Rattle.calllaws.specs.Holds.{Ready, Holds, Keeps}
+use Rattle.calllaws.specs.Holds.{Keeps}
 use Rattle.calllaws.specs.FormatLaw.{AnyContents}
 use Rattle.calllaws.proofs.Commits.{commits_are_atomic}
 use Rattle.calllaws.proofs.Checkpoints.{checkpoints_keep_the_table}
@@ -35,12 +30,12 @@ use Rattle.calllaws.proofs.Formats.{formats_make_an_empty_store}
 use Rattle.order.specs.Order.{EndsThere}
 use Rattle.book.specs.Book.{Book, blank, next, restarted, is_commit, book_read, read_in}
 use Rattle.book.specs.Runs.{Event, called, restart, Run, start, asked, returned, is_format, is_kept, same_below}
-use Rattle.book.specs.Commits.{Fate, cutOff, commits_after, Tally, no_tally, tally_call, tally_event, tally_from, tally, Kept, none, WholeAndInOrder}
+use Rattle.book.specs.Commits.{cutOff, commits_after, Tally, no_tally, tally_call, tally_event, tally_from, tally, none, WholeAndInOrder}
 use Rattle.book.specs.Promise.{Lawful, ByState, Right, Promised, EveryRunKeepsTheBook}
 use Rattle.order.proofs.Own.{own, blocks_is, ring_is}
 use Rattle.order.proofs.Performed.{stays_lit}
-use Rattle.book.proofs.Goods.{Readable, EachReadable, Good, good_none, lay_readable, never_foreign}
-use Rattle.book.proofs.Follows.{live, tallied, Live, Gone, Follows, lives, gone, Owes}
+use Rattle.book.proofs.Goods.{Readable, EachReadable, good_none, lay_readable, never_foreign}
+use Rattle.book.proofs.Follows.{live, tallied, Follows, lives, gone, Owes}
 use Rattle.book.proofs.Went.{follow, went_step}
 use Rattle.book.proofs.WentDark.{died}
 

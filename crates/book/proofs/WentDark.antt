@@ -1,5 +1,5 @@
 -- A call that is cut by power: its answer is 5, and whatever comes back is the book's, with or without a cut commit.
-use Rattle.std.proofs.Common.{◌≡◌, ℕ, ◌+◌, ◌<◌, Bool, true, false, cond, not, ◌&&◌, ◌||◌, ltb, ◌⊎◌, List, [], ◌∷◌, ◌++◌, length, Some, None, Option, sym, refl, ap, ◌∙◌, subst, inl, inr, ⊎_elim, arith}
+use Rattle.std.proofs.Common.{◌≡◌, ℕ, ◌+◌, ◌<◌, Bool, true, false, cond, not, ltb, ◌⊎◌, List, [], ◌∷◌, ◌++◌, length, Some, None, Option, sym, refl, ap, ◌∙◌, subst, inl, inr, arith}
 use Rattle.std.proofs.lemmas.Bool.{both_ways, and_from, lt-ltb}
 use Rattle.refusal.specs.declared.reason.Refusal.{Refusal}
 use Rattle.refusal.specs.declared.reason.Refusal.TheVariants.{Dark, NoSuchRecord, RingFull}
@@ -21,18 +21,18 @@ use Rattle.calls.specs.declared.answer.Answer.TheVariants.{Refused, Done, Used, 
 use Rattle.calls.specs.Table.{ring_of, zero_unit}
 use Rattle.calls.specs.Acts.{commit_acts, checkpoint_acts, named_blocks}
 use Rattle.calls.specs.Judge.{judge}
-use Rattle.calls.specs.Plans.{Machine, Kind, Plan, table_of, refusing, set_refusal, put, is_full, added, read_unit, set_by, set_plan, read_plan, commit_plan, checkpoint_plan, plan_of}
+use Rattle.calls.specs.Plans.{Machine, Kind, Plan, table_of, refusing, set_refusal, is_full, added, read_unit, set_by, set_plan, read_plan, commit_plan, checkpoint_plan, plan_of}
 use Rattle.calls.specs.Steps.{WentDark}
-use Rattle.calllaws.specs.Holds.{Ready, Holds, Keeps}
+use Rattle.calllaws.specs.Holds.{Keeps}
 use Rattle.calllaws.specs.CommitLaw.{CommitsAreAtomic}
 use Rattle.calllaws.specs.CheckpointLaw.{CheckpointsKeepTheTable, MountsKeepTheTable, KeepsTheTable}
-use Rattle.book.specs.Book.{Book, next, is_commit}
+use Rattle.book.specs.Book.{is_commit}
 use Rattle.book.specs.Runs.{is_format}
-use Rattle.book.specs.Commits.{Fate, cutOff, Tally, tally_call, WholeAndInOrder}
-use Rattle.book.specs.Promise.{Lawful, Right, makes_acts, no_room}
+use Rattle.book.specs.Commits.{Fate, cutOff, WholeAndInOrder}
+use Rattle.book.specs.Promise.{Lawful, makes_acts, no_room}
 use Rattle.order.proofs.Own.{Own, own, own_places, own_blocks, own_words, own_sectors, places_is, blocks_is, ring_is}
-use Rattle.book.proofs.Goods.{Readable, EachReadable, Good, good_fair}
-use Rattle.book.proofs.Follows.{live, tallied, Gone, Follows, gone, Owes, commit_takes, commit_leaves}
+use Rattle.book.proofs.Goods.{Readable, Good, good_fair}
+use Rattle.book.proofs.Follows.{live, tallied, gone, Owes, commit_takes, commit_leaves}
 use Rattle.book.proofs.Went.{machine, mount_plan_is, full_is, idle_mounted, open_mounted}
 
 -- what may come back: the units as they were, or after a cut commit with its settings laid over

@@ -1,6 +1,5 @@
 -- The commits of a run, told from its events alone, in order: whole, accepted or cut by power. Assumes nothing.
-use Rattle.std.specs.Prelude.{◌≡◌, ℕ, ◌+◌, ◌<◌, Bool, true, false, cond, not, ◌&&◌, ◌||◌, List, [], ◌∷◌, ◌++◌, length, ◌==◌}
-use Rattle.refusal.specs.declared.reason.Refusal.{Refusal}
+use Rattle.std.specs.Prelude.{◌≡◌, ℕ, ◌+◌, ◌<◌, Bool, true, false, cond, not, ◌&&◌, List, [], ◌∷◌, ◌++◌, ◌==◌}
 use Rattle.refusal.specs.Numbers.{number_of}
 use Rattle.ringlaws.specs.Layout.{records_of}
 use Rattle.ringlaws.specs.TxnInfo.{Transaction}

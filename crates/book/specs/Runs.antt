@@ -1,5 +1,5 @@
 -- Runs of a store: lists of calls and restarts, each call with its answer, and beside them the book. Assumes nothing.
-use Rattle.std.specs.Prelude.{◌≡◌, ℕ, zero, suc, Bool, true, false, cond, ◌&&◌, List, [], ◌∷◌, ◌++◌}
+use Rattle.std.specs.Prelude.{◌≡◌, ℕ, zero, suc, Bool, true, false, ◌&&◌, List, [], ◌∷◌, ◌++◌}
 use Rattle.std.specs.Str.{bytes_eq}
 use Rattle.ringlaws.specs.Layout.{records_of}
 use Rattle.ringlaws.specs.Newest.{lay}

@@ -1,4 +1,6 @@
 //! The book, and what is promised of every list of calls and restarts.
+#![tactic(auto)]
+
 ghost use Rattle.book.specs.Promise.{EveryRunKeepsTheBook};
 ghost use Rattle.order.specs.Order.{kind_of};
 

@@ -1,12 +1,11 @@
 -- What a mount finds of the contents of a memory. Assumes nothing.
-use Rattle.std.proofs.Common.{◌≡◌, ℕ, ◌+◌, ◌*◌, ◌<◌, ◌≤◌, Bool, true, false, cond, ◌&&◌, eqb, ltb, leb, IsErrAnd, Some, None, Ok, Err, Option, Result, sym, refl, ap, ◌∙◌, subst, arith, MatchResult}
+use Rattle.std.proofs.Common.{◌≡◌, ℕ, ◌+◌, ◌*◌, ◌<◌, ◌≤◌, Bool, true, false, cond, ◌&&◌, eqb, ltb, leb, IsErrAnd, Some, None, Ok, Err, Result, sym, refl, ap, ◌∙◌, subst, arith, MatchResult}
 use Rattle.std.proofs.lemmas.Bool.{cond-true, and_from, both_ways, eq-eqb, lt-ltb, le-leb, leb-true}
 use Rattle.refusal.specs.declared.reason.Refusal.{Refusal}
 use Rattle.refusal.specs.declared.reason.Refusal.TheVariants.{Dark, Beyond, NoGroundMark, BadHeader, UnsoundRing}
 use Rattle.device.specs.Words.{NvmMeaning, words_of, loads}
 use Rattle.ringlaws.specs.Layout.{Contents, is_ring, ground_mark, ground_word, places_word, blocks_word, head_of, tail_of, most_places}
-use Rattle.ringlaws.specs.Sound.{Verdict, spelled, bad_at, step_back, SoundBetween}
-use Rattle.ring.specs.Sources.{Agrees, RefusesWithin}
+use Rattle.ringlaws.specs.Sound.{bad_at, step_back, SoundBetween}
 use Rattle.ring.specs.Walks.{WhyRefused, no_ring, handed_on, unsound}
 use Rattle.calls.specs.Plans.{fit_header, damage, mount_refusal}
 use Rattle.checkpointing.proofs.Loading.{loads_agree}

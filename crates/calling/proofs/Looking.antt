@@ -1,5 +1,5 @@
 -- The unit of a record in a mounted store in order. Assumes nothing.
-use Rattle.std.proofs.Common.{◌≡◌, ℕ, ◌-◌, ◌*◌, ◌/◌, ◌<◌, ◌≤◌, Bool, true, false, cond, ◌||◌, ltb, List, Some, None, Ok, Err, Option, Result, unwrap_or, sym, refl, ap, ◌∙◌, subst, arith}
+use Rattle.std.proofs.Common.{◌≡◌, ℕ, ◌-◌, ◌/◌, ◌<◌, ◌≤◌, false, cond, ltb, List, Some, None, Ok, Err, Option, Result, unwrap_or, sym, refl, ap, ◌∙◌, arith}
 use Rattle.std.proofs.lemmas.Bool.{cond-true, cond-false, lt-ltb, le-ltb}
 use Rattle.refusal.specs.declared.reason.Refusal.{Refusal}
 use Rattle.refusal.specs.declared.reason.Refusal.TheVariants.{Dark, NoSuchRecord}
@@ -12,7 +12,7 @@ use Rattle.ringlaws.specs.Newest.{setting_of, lay}
 use Rattle.calls.specs.declared.state.State.{State}
 use Rattle.calls.specs.declared.state.State.TheVariants.{Unmounted}
 use Rattle.calls.specs.Table.{table}
-use Rattle.calls.specs.Plans.{Machine, blocks_of, ring, table_of}
+use Rattle.calls.specs.Plans.{Machine, ring, table_of}
 use Rattle.order.specs.Order.{InOrder}
 use Rattle.checkpointing.specs.Ready.{Ready}
 use Rattle.calling.specs.Seen.{seen}

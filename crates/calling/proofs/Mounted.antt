@@ -1,29 +1,26 @@
 -- Steps of a checkpoint on a mounted store in order. Assumes nothing.
-use Rattle.std.proofs.Common.{◌≡◌, ℕ, ◌+◌, ◌-◌, ◌*◌, ◌≤◌, Bool, true, false, cond, ◌&&◌, ◌||◌, ltb, leb, List, [], IfOk, Some, None, Ok, Err, Option, Result, sym, refl, ap, ◌∙◌, subst, arith}
+use Rattle.std.proofs.Common.{◌≡◌, ℕ, ◌-◌, ◌≤◌, false, ◌&&◌, ltb, leb, List, IfOk, None, Ok, Err, Option, Result, sym, refl, ap, subst, arith}
 use Rattle.std.proofs.lemmas.Bool.{and_from, le-leb, lt-ltb}
 use Rattle.refusal.specs.declared.reason.Refusal.{Refusal}
 use Rattle.device.specs.Words.{NvmMeaning, words_of}
 use Rattle.device.specs.Sectors.{DiskMeaning, sectors_of}
-use Rattle.crash.specs.Pair.{Pair, both, is_dark, RanPair, PairAccepts}
-use Rattle.ringlaws.specs.Layout.{is_ring, head_of, tail_of, most_places}
+use Rattle.crash.specs.Pair.{both, RanPair, PairAccepts}
+use Rattle.ringlaws.specs.Layout.{head_of, tail_of, most_places}
 use Rattle.ringlaws.specs.TxnInfo.{Transaction}
 use Rattle.calls.specs.declared.state.State.{State}
 use Rattle.calls.specs.declared.state.State.TheVariants.{Unmounted, Idle, Open}
-use Rattle.calls.specs.declared.call.Call.{Call}
 use Rattle.calls.specs.declared.call.Call.TheVariants.{Checkpoint, Close}
-use Rattle.calls.specs.declared.answer.Answer.{Answer}
 use Rattle.calls.specs.declared.answer.Answer.TheVariants.{Refused, Done, Blocks}
 use Rattle.calls.specs.Acts.{checkpoint_acts, named_blocks}
 use Rattle.calls.specs.Judge.{judge}
-use Rattle.calls.specs.Plans.{Machine, Kind, Plan, places_of, blocks_of, words, sectors, ring, table_of, checkpoint_plan, plan_by, plan_of}
+use Rattle.calls.specs.Plans.{Machine, Kind, places_of, blocks_of, words, sectors, ring, table_of, checkpoint_plan, plan_by}
 use Rattle.calls.specs.Steps.{Step}
-use Rattle.calllaws.specs.Holds.{Keeps}
 use Rattle.calllaws.proofs.Checkpoints.{checkpoints_keep_the_table}
 use Rattle.order.specs.Order.{InOrder}
 use Rattle.order.proofs.Own.{Own, own}
 use Rattle.acting.specs.Ends.{RanOrCut}
 use Rattle.acting.proofs.Running.{ran_or_cut}
-use Rattle.checkpointing.specs.Ready.{Fit, Ready}
+use Rattle.checkpointing.specs.Ready.{Ready}
 use Rattle.calling.specs.Seen.{seen, done_answer, blocks_answer, if_done}
 use Rattle.calling.proofs.Stepping.{neither_dark, by_plan, cut_by_plan}
 

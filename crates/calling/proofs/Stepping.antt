@@ -1,22 +1,20 @@
 -- Steps of calls that act on the devices of a store. Assumes nothing.
-use Rattle.std.proofs.Common.{◌≡◌, ℕ, ◌-◌, ◌≤◌, Bool, true, false, cond, ◌||◌, List, [], Ok, Err, Result, sym, refl, ap, ◌∙◌, subst, arith}
+use Rattle.std.proofs.Common.{◌≡◌, ℕ, ◌-◌, Bool, true, false, ◌||◌, [], Ok, Err, Result, sym, refl, ap, subst}
 use Rattle.std.proofs.lemmas.Bool.{cond-true, cond-false}
 use Rattle.refusal.specs.declared.reason.Refusal.{Refusal}
 use Rattle.refusal.specs.declared.reason.Refusal.TheVariants.{Dark, BadSize}
 use Rattle.device.specs.Words.{NvmMeaning}
 use Rattle.device.specs.Sectors.{DiskMeaning}
 use Rattle.crash.specs.Runs.{done}
-use Rattle.crash.specs.Pair.{Pair, both, Act, is_dark, RanPair, PairAccepts}
-use Rattle.ringlaws.specs.Layout.{most_places}
+use Rattle.crash.specs.Pair.{Pair, both, is_dark, RanPair}
 use Rattle.ringlaws.specs.TxnInfo.{Transaction}
-use Rattle.calls.specs.declared.state.State.{State}
 use Rattle.calls.specs.declared.state.State.TheVariants.{Unmounted}
 use Rattle.calls.specs.declared.call.Call.{Call}
 use Rattle.calls.specs.declared.call.Call.TheVariants.{Format}
 use Rattle.calls.specs.declared.answer.Answer.{Answer}
 use Rattle.calls.specs.declared.answer.Answer.TheVariants.{Refused, Done}
 use Rattle.calls.specs.Acts.{format_acts}
-use Rattle.calls.specs.Plans.{Machine, Kind, Plan, places_of, blocks_of, fit_sizes, refusing, plan_of}
+use Rattle.calls.specs.Plans.{Machine, Kind, Plan, fit_sizes, refusing, plan_of}
 use Rattle.calls.specs.Steps.{Went, WentDark, Step, was_dark, went, went_dark}
 use Rattle.calllaws.proofs.Formats.{formats_make_an_empty_store}
 use Rattle.order.specs.Order.{EndsThere}

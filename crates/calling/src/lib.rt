@@ -1,4 +1,6 @@
 //! The calls of a store that act on its devices, on any non-volatile memory and any disk: each is a step by its plan.
+#![tactic(auto)]
+
 pub mod checkpoint;
 pub mod contents;
 pub mod ends;

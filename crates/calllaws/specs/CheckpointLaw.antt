@@ -1,5 +1,5 @@
 -- What a checkpoint and a mount come to, whether they are performed whole or cut. Assumes nothing.
-use Rattle.std.specs.Prelude.{ℕ, ◌+◌, List, [], ◌∷◌, ◌++◌}
+use Rattle.std.specs.Prelude.{ℕ, ◌+◌, List, [], ◌++◌}
 use Rattle.crash.specs.Pair.{Pair, Act, PerformedPair, CutPair, PairRestarted, PairAccepts, settling_both}
 use Rattle.ringlaws.specs.Layout.{Contents}
 use Rattle.ringlaws.specs.TxnInfo.{Transaction}

@@ -1,5 +1,5 @@
 -- What a format comes to, and the settling at the start of a format and of a mount, on devices with any contents. Assumes nothing.
-use Rattle.std.specs.Prelude.{◌≡◌, ℕ, ◌+◌, ◌*◌, ◌≤◌, false, List, []}
+use Rattle.std.specs.Prelude.{◌≡◌, ℕ, ◌+◌, ◌*◌, ◌≤◌, false, []}
 use Rattle.device.specs.Pieces.{is_unsettled}
 use Rattle.device.specs.Words.{words_of}
 use Rattle.device.specs.Sectors.{sectors_of}

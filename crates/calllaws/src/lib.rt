@@ -1,5 +1,7 @@
 //! What the acts of each call make of both devices, performed whole or cut by power. Each function names a law, so that the
 //! check asks for its proof.
+#![tactic(auto)]
+
 ghost use Rattle.calllaws.specs.CheckpointLaw.{CheckpointsKeepTheTable, MountsKeepTheTable};
 ghost use Rattle.calllaws.specs.FormatLaw.{SettlingSettlesBoth, FormatsMakeAnEmptyStore};
 ghost use Rattle.calllaws.specs.CommitLaw.{CommitsAreAtomic};

@@ -1,12 +1,12 @@
 -- The device acts of format, mount, commit and checkpoint, in their order. Words, lines and blocks go ascending; places, stored
 -- or flushed, go from the old tail on; flushes after stores take the stored lines, once each. Assumes nothing.
 use Rattle.std.specs.Prelude.{ℕ, zero, suc, ◌+◌, ◌*◌, cond, List, [], ◌∷◌, ◌++◌, map, length, replicate, slice_index_or}
-use Rattle.device.specs.Words.{NvmAct, Store, Flush, Fence}
+use Rattle.device.specs.Words.{NvmAct, Fence}
 use Rattle.device.specs.Sectors.{DiskAct, Write, Sync}
 use Rattle.crash.specs.Runs.{each_of}
 use Rattle.crash.specs.Rows.{storing, flushing, sealing}
 use Rattle.crash.specs.Pair.{Act, on_nvm, on_disk, settling_both}
-use Rattle.ringlaws.specs.Layout.{Contents, ground_mark, ground_word, head_word, tail_word, head_of, tail_of, after}
+use Rattle.ringlaws.specs.Layout.{Contents, ground_mark, ground_word, head_word, tail_word, tail_of, after}
 use Rattle.ringlaws.specs.TxnInfo.{Transaction, taken}
 use Rattle.ringlaws.specs.Spells.{units_of}
 use Rattle.calls.specs.Table.{table, table_block, is_named}

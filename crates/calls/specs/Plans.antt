@@ -1,12 +1,11 @@
 -- What each call does, from the contents that it finds: its device acts, its answer, and the state and the transaction after it.
 -- Assumes nothing.
-use Rattle.std.specs.Prelude.{◌≡◌, ℕ, ◌+◌, ◌-◌, Bool, true, false, cond, not, ◌&&◌, ◌||◌, List, [], ◌∷◌, ◌++◌, length, Some, None, Option, ◌==◌, nat_le, nat_lt}
+use Rattle.std.specs.Prelude.{ℕ, ◌+◌, ◌-◌, Bool, false, cond, ◌&&◌, ◌||◌, List, [], ◌∷◌, ◌++◌, length, Some, None, Option, ◌==◌, nat_le, nat_lt}
 use Rattle.refusal.specs.declared.reason.Refusal.{Refusal}
 use Rattle.refusal.specs.declared.reason.Refusal.TheVariants.{BadSize, NoGroundMark, BadHeader, UnsoundRing, NoSuchRecord, TooManyRecords, RingFull, ForeignUnit}
 use Rattle.device.specs.Words.{words_of}
 use Rattle.device.specs.Sectors.{sectors_of}
 use Rattle.crash.specs.Pair.{Pair, Act, settling_both}
-use Rattle.ringlaws.specs.declared.setting.Setting.{Setting}
 use Rattle.ringlaws.specs.Layout.{Contents, ground_mark, ground_word, places_word, blocks_word, head_of, tail_of, least_places, most_places, most_blocks, used, records_of}
 use Rattle.ringlaws.specs.TxnInfo.{Transaction, numbers_of, count_limit, taken, member, all_zero}
 use Rattle.ringlaws.specs.Sound.{Verdict, spelled, bad_at, step_back}

@@ -1,5 +1,5 @@
 -- The table: what the records of a store are. Assumes nothing.
-use Rattle.std.specs.Prelude.{ℕ, ◌+◌, ◌*◌, ◌/◌, ◌%◌, Bool, true, false, cond, ◌||◌, List, [], ◌∷◌, map, replicate, ◌==◌, slice_index}
+use Rattle.std.specs.Prelude.{ℕ, ◌+◌, ◌*◌, ◌/◌, ◌%◌, Bool, false, ◌||◌, List, [], ◌∷◌, map, replicate, ◌==◌, slice_index}
 use Rattle.std.specs.List.{range_with_len}
 use Rattle.device.specs.Sectors.{disk_word}
 use Rattle.ringlaws.specs.Layout.{Contents, home_block, home_word, head_of, tail_of}

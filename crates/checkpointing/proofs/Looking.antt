@@ -7,7 +7,6 @@ use Rattle.device.specs.Words.{NvmMeaning, loads, words_of}
 use Rattle.device.specs.Sectors.{DiskMeaning, sectors_of, block_of, read_refusal}
 use Rattle.ringlaws.specs.Layout.{Contents, unit_at, home_block}
 use Rattle.ringlaws.specs.TxnInfo.{Transaction}
-use Rattle.ringlaws.specs.Newest.{newest}
 use Rattle.ringlaws.proofs.Seek.{newest_is_a_place}
 use Rattle.ring.specs.Sources.{Agrees, RefusesWithin}
 use Rattle.ring.specs.Walks.{Finds}

@@ -1,4 +1,6 @@
 //! Looking a record up, and the checkpoint, on any non-volatile memory and any disk.
+#![tactic(auto)]
+
 mod blocks;
 pub mod devices;
 mod gather;

@@ -1,5 +1,7 @@
 //! Runs of acts on devices, and what power cuts and restarts leave of them. There is no code here: each function names theorems,
 //! so that the check asks for their proofs. docs/DEVICES.md says in plain words what they mean.
+#![tactic(auto)]
+
 ghost use Rattle.device.specs.Sectors.{SectorMark, disk_rules};
 ghost use Rattle.device.specs.Words.{WordMark, nvm_rules};
 ghost use Rattle.std.specs.Prelude.{ℕ, List};

@@ -1,5 +1,5 @@
 -- An image that was lent as a slice, and answers read off it. Assumes nothing.
-use Rattle.std.proofs.Common.{◌≡◌, ℕ, List, length, Option, Vec, sym, refl, ap, ◌∙◌, subst}
+use Rattle.std.proofs.Common.{◌≡◌, ℕ, List, length, Option, Vec, sym, ap, ◌∙◌, subst}
 use Rattle.std.specs.Vec.{with_items}
 use Rattle.std.specs.declared.alloc.Global.{Global}
 use Rattle.std.proofs.lemmas.List.{with_items_is}

@@ -1,5 +1,5 @@
 -- A non-volatile memory (NVM): words of 64 bits, lines of 8 words, units of 32 words; its size counts units. Assumes nothing.
-use Rattle.std.specs.Prelude.{ℕ, ◌*◌, ◌/◌, Bool, true, false, cond, Ok, Err, Result, ◌==◌, nat_le}
+use Rattle.std.specs.Prelude.{ℕ, ◌*◌, ◌/◌, Bool, false, cond, Ok, Err, Result, ◌==◌, nat_le}
 use Rattle.refusal.specs.declared.reason.Refusal.{Refusal}
 use Rattle.refusal.specs.declared.reason.Refusal.TheVariants.{Beyond, Dark}
 use Rattle.device.specs.Pieces.{Piece, settled, unsettled, settled_value, present_value, is_unsettled}

@@ -1,4 +1,6 @@
 //! Two simulated disks: the patient one settles sectors at syncs only, the prompt one at every write.
+#![tactic(auto)]
+
 pub mod acting;
 pub mod contents;
 pub mod laws;

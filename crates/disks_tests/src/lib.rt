@@ -1,4 +1,6 @@
 //! Tests of the two simulated disks, by tables of acts with what stands after each.
+#![tactic(auto)]
+
 #[cfg(test)]
 mod tables;
 #[cfg(test)]

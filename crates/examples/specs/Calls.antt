@@ -1,5 +1,5 @@
 -- Examples of the room in a ring and of the records of a disk.
-use Rattle.std.specs.Prelude.{◌≡◌, ℕ, true, false, cond, List, [], replicate, Some, None, Option, ◌==◌}
+use Rattle.std.specs.Prelude.{◌≡◌, ℕ, true, false, cond, [], replicate, Some, None, Option, ◌==◌}
 use Rattle.std.specs.Option.{option_map}
 use Rattle.refusal.specs.Numbers.{number_of}
 use Rattle.ringlaws.specs.Layout.{Contents, tail_word}

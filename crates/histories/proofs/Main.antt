@@ -1,6 +1,6 @@
 -- Any two records of a lawful kind have a history. Assumes nothing.
 use Rattle.std.proofs.Common.{◌≡◌, ℕ, ◌≤◌, Bool, true, false, cond, ltb, List, [], ◌∷◌, ◌++◌, sym, refl, ap, ◌∙◌, inl, inr, arith}
-use Rattle.std.proofs.lemmas.Bool.{le-ltb, cases_Bool, both_ways}
+use Rattle.std.proofs.lemmas.Bool.{le-ltb, cases_Bool}
 use Rattle.refusal.specs.declared.reason.Refusal.TheVariants.{Dark}
 use Rattle.device.specs.Pieces.{settled, unsettled, is_unsettled}
 use Rattle.device.specs.Words.{Word, waiting}
@@ -12,7 +12,7 @@ use Rattle.calls.specs.declared.call.Call.TheVariants.{Format, Mount, Begin, Set
 use Rattle.calls.specs.declared.answer.Answer.TheVariants.{Refused, Done, Used, Blocks, Found}
 use Rattle.calls.specs.Table.{zero_unit, is_named, names_in}
 use Rattle.calls.specs.Acts.{format_acts, named_blocks}
-use Rattle.calls.specs.Plans.{Machine, Kind, places_of, blocks_of, put}
+use Rattle.calls.specs.Plans.{Machine, Kind, blocks_of, put}
 use Rattle.calls.specs.Steps.{Step, went, MachineRestarted}
 use Rattle.calllaws.specs.FormatLaw.{AnyContents}
 use Rattle.calllaws.proofs.Formats.{formats_make_an_empty_store}
@@ -20,8 +20,8 @@ use Rattle.order.specs.Order.{EndsThere}
 use Rattle.order.proofs.Performed.{stays_lit}
 use Rattle.book.specs.Book.{Book, blank, next, restarted, book_read}
 use Rattle.book.specs.Runs.{Event, called, restart, Run, start, asked, returned, is_kept}
-use Rattle.book.specs.Commits.{tally, places_taken, none}
-use Rattle.book.specs.Promise.{Lawful, Right}
+use Rattle.book.specs.Commits.{places_taken, none}
+use Rattle.book.specs.Promise.{Lawful}
 use Rattle.book.proofs.Main.{every_run_keeps_the_book}
 use Rattle.book.proofs.Went.{machine}
 use Rattle.histories.specs.History.{Ending, History, up_to_the_cut, AHistoryHappens}

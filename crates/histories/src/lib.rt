@@ -1,5 +1,7 @@
 //! Histories that happen: examples of what the promise of the book speaks of. There is no code here: each function names what
 //! there is, so that the check asks for it.
+#![tactic(auto)]
+
 ghost use Rattle.histories.specs.History.{AHistoryHappens};
 ghost use Rattle.histories.specs.Masts.{MastHistory};
 ghost use Rattle.order.specs.Order.{kind_of};

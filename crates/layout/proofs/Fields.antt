@@ -1,7 +1,7 @@
 -- Fields and words give each other back: by induction on the number of fields in a word, for every width.
-use Rattle.std.proofs.Common.{◌≡◌, ℕ, zero, suc, ◌+◌, ◌*◌, ◌/◌, ◌%◌, ◌^◌, ◌<◌, ◌≤◌, List, get_or, sym, refl, ap, ◌∙◌, add_comm, mul-suc, arith}
-use Rattle.std.proofs.lemmas.Nat.{pow_pos, shr-shr, shr_below, div-add-mod', div-mul-add, mod-mul-add, mod_below, div_below}
-use Rattle.layout.specs.Fields.{field, packed, word_of, field_at, FieldsComeBack, WordsComeBack}
+use Rattle.std.proofs.Common.{◌≡◌, ℕ, zero, suc, ◌+◌, ◌*◌, ◌/◌, ◌%◌, ◌^◌, ◌<◌, get_or, sym, refl, ap, ◌∙◌, add_comm, mul-suc, arith}
+use Rattle.std.proofs.lemmas.Nat.{shr-shr, shr_below, div-add-mod', div-mul-add, mod-mul-add, mod_below, div_below}
+use Rattle.layout.specs.Fields.{field, packed, field_at, FieldsComeBack, WordsComeBack}
 
 field_zero : (width word : ℕ) → field width word 0 ≡ word % 2 ^ width
 field_zero width word =

@@ -1,6 +1,5 @@
 -- Numbers as a line has them: an unsigned decimal word, and a signed level of 16 bits.
-use Rattle.std.specs.Prelude.{◌≡◌, ℕ, ◌+◌, ◌-◌, ◌*◌, ◌^◌, ◌<◌, cond, ◌&&◌, List, [], ◌∷◌, length, ℤ, pos, neg_ℤ, Some, None, decimal, Option, FitsSigned, ◌==◌, nat_le, nat_lt}
-use Rattle.std.specs.Int.Signed.{mag}
+use Rattle.std.specs.Prelude.{◌≡◌, ℕ, ◌+◌, ◌-◌, ◌*◌, ◌^◌, ◌<◌, cond, ◌&&◌, List, [], ◌∷◌, ℤ, pos, neg_ℤ, Some, None, decimal, Option, FitsSigned, ◌==◌, nat_le, nat_lt}
 use Rattle.std.specs.Int.{w16}
 use Rattle.std.specs.Str.{all_ascii_digits}
 use Rattle.std.specs.Fmt.{signed_decimal}

@@ -11,7 +11,7 @@ use Rattle.refusal.specs.declared.reason.Refusal.{Refusal}
 use Rattle.refusal.specs.declared.reason.Refusal.TheVariants.{NameLength, NameByte}
 use Rattle.layout.specs.Lists.{each}
 use Rattle.layout.proofs.Each.{each_at, each_from}
-use Rattle.mast.specs.Names.{is_printed, is_padding, is_length, is_name, mast_refusal, short, padded_name}
+use Rattle.mast.specs.Names.{is_printed, is_padding, is_length, is_name, mast_refusal, padded_name}
 use Rattle.mast.specs.declared.record.Mast.{Mast}
 use Rattle.mast.specs.contracts.record.Mast.{struct, the_propositions}
 use Rattle.mast.specs.Masts.{name_of, Made, mast_words, mast_unit, byte_at, bytes_in, name_in, mast_if, mast_reads, MastShape, MastsReadExactly}

@@ -1,4 +1,6 @@
 //! The mast: a transmitter site of a coverage plan, with its name.
+#![tactic(auto)]
+
 pub mod kind;
 pub mod make;
 pub mod record;

@@ -1,11 +1,11 @@
 -- What changed marks and values do to the words and to which lines hold an unsettled one. Assumes nothing.
-use Rattle.std.proofs.Common.{◌≡◌, ℕ, ◌+◌, ◌*◌, ◌/◌, ◌%◌, ◌<◌, ◌≤◌, Bool, true, false, cond, ◌||◌, eqb, ◌≢◌, ◌⊎◌, List, length, get_or, set, Vec, sym, refl, ap, ◌∙◌, inl, inr, arith}
+use Rattle.std.proofs.Common.{◌≡◌, ℕ, ◌+◌, ◌*◌, ◌/◌, ◌%◌, ◌<◌, Bool, true, false, cond, ◌||◌, eqb, List, length, get_or, set, Vec, sym, refl, ap, ◌∙◌, inl, inr, arith}
 use Rattle.std.proofs.lemmas.Bool.{cases_eq}
 use Rattle.std.proofs.lemmas.Bool.Decides.{nat_tests}
 use Rattle.std.proofs.lemmas.List.{get_or-set_same, get_or-set_other}
 use Rattle.device.specs.declared.comeback.Comeback.{Comeback}
 use Rattle.device.specs.Pieces.{settled, unsettled, settled_value, present_value, is_unsettled}
-use Rattle.device.specs.Words.{Word, waiting, flushed, flushed_word, fenced_word, nvm_makes, Store}
+use Rattle.device.specs.Words.{Word, waiting, flushed_word, fenced_word, nvm_makes, Store}
 use Rattle.std.specs.Vec.{with_items}
 use Rattle.std.specs.declared.alloc.Global.{Global}
 use Rattle.simulated.specs.Lists.{member, inside}

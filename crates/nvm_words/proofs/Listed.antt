@@ -1,9 +1,9 @@
 -- A list of exactly the lines that hold an unsettled word. Assumes nothing.
-use Rattle.std.proofs.Common.{◌≡◌, ℕ, ◌+◌, ◌*◌, ◌/◌, ◌%◌, ◌<◌, ◌≤◌, Bool, true, false, cond, not, ◌&&◌, ◌||◌, eqb, ◌⊎◌, List, [], ◌∷◌, ◌++◌, length, get_or, filter, sym, refl, ap, ◌∙◌, inl, inr, not-suc-le-zero, arith, eq-eqb, eqb-true}
+use Rattle.std.proofs.Common.{◌≡◌, ℕ, ◌+◌, ◌*◌, ◌/◌, ◌%◌, ◌<◌, Bool, true, false, cond, not, ◌||◌, eqb, List, [], ◌∷◌, ◌++◌, length, get_or, filter, sym, refl, ap, ◌∙◌, inl, inr, not-suc-le-zero, arith, eq-eqb, eqb-true}
 use Rattle.std.proofs.lemmas.Bool.{cases_eq, and_parts, not-true, ne_eqb}
 use Rattle.std.proofs.lemmas.Bool.Decides.{nat_tests}
 use Rattle.device.specs.Pieces.{settled, settled_value, present_value, is_unsettled}
-use Rattle.device.specs.Words.{Word, fenced_word}
+use Rattle.device.specs.Words.{Word}
 use Rattle.device.specs.declared.comeback.Comeback.{Comeback}
 use Rattle.simulated.specs.Lists.{member, distinct, inside}
 use Rattle.simulated.specs.Listing.{with_line, without_first}
@@ -14,7 +14,7 @@ use Rattle.nvm_words.specs.declared.mark.Mark.TheVariants.{Settled, Waiting, Flu
 use Rattle.nvm_words.specs.declared.mark.Change.{Change}
 use Rattle.nvm_words.specs.declared.mark.Change.TheVariants.{Flush, Fence, Settle}
 use Rattle.nvm_words.specs.Marks.{word_of, words_in, is_marked, any_marked, changed_mark, value_back, values_back, Within, Among}
-use Rattle.nvm_words.specs.Meant.{is_unsettled_line, line_settled}
+use Rattle.nvm_words.specs.Meant.{is_unsettled_line}
 use Rattle.nvm_words.proofs.Any.{any_false, any_none, any_same}
 use Rattle.nvm_words.proofs.Contents.{unmarked, same_line, among_words, changed_word, marked_line}
 

@@ -1,5 +1,5 @@
 -- What the words of a simulated memory always are. Assumes nothing.
-use Rattle.std.proofs.Common.{◌≡◌, ℕ, ◌+◌, ◌*◌, ◌<◌, ◌≤◌, false, List, length, get_or, sym, refl, ap, ◌∙◌, arith}
+use Rattle.std.proofs.Common.{◌≡◌, ℕ, ◌+◌, ◌*◌, ◌<◌, ◌≤◌, false, List, length, get_or, ap, arith}
 use Rattle.std.proofs.lemmas.List.{get_or_past}
 use Rattle.device.specs.Pieces.{is_unsettled}
 use Rattle.simulated.proofs.Flags.{listed_within}

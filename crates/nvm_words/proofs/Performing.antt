@@ -12,7 +12,7 @@ use Rattle.simulated.specs.Natures.{answers, becomes, performed_by}
 use Rattle.simulated.proofs.Members.{no_true}
 use Rattle.simulated.proofs.Laws.{same_state, performed_answer, performed_state}
 use Rattle.nvm_words.specs.declared.words.Words.{Words}
-use Rattle.nvm_words.specs.Meant.{meant, simulated_nvm, unsettled_lines, Became}
+use Rattle.nvm_words.specs.Meant.{meant, simulated_nvm, Became}
 use Rattle.nvm_words.specs.Acts.{Passed}
 
 -- what is not refused has power

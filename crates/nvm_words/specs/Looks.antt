@@ -1,5 +1,5 @@
 -- What tests and tools see of a memory: no value and no mark beyond its size. Assumes nothing.
-use Rattle.std.specs.Prelude.{ℕ, ◌*◌, Bool, cond, Some, None, Option, nat_le}
+use Rattle.std.specs.Prelude.{ℕ, ◌*◌, cond, Some, None, Option, nat_le}
 use Rattle.device.specs.Pieces.{settled, unsettled, settled_value, present_value}
 use Rattle.device.specs.Words.{Word, NvmMeaning, waiting, flushed}
 use Rattle.nvm_words.specs.declared.mark.Mark.{Mark}

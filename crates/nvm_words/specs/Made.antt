@@ -1,5 +1,5 @@
 -- What a memory means that is made of three lists: settled values, present values and marks. Assumes nothing.
-use Rattle.std.specs.Prelude.{◌≡◌, ℕ, ◌*◌, ◌/◌, min, Bool, false, cond, List, [], length, filter, nat_lt}
+use Rattle.std.specs.Prelude.{◌≡◌, ℕ, ◌*◌, ◌/◌, min, false, cond, List, [], length, filter, nat_lt}
 use Rattle.std.specs.List.{range_with_len}
 use Rattle.device.specs.Pieces.{settled}
 use Rattle.device.specs.Words.{Word, WordMark}

@@ -1,4 +1,6 @@
 //! The words of a simulated non-volatile memory: what all such memories share, whatever settles in them and when.
+#![tactic(auto)]
+
 pub mod acting;
 pub mod asking;
 pub mod making;

@@ -1,15 +1,15 @@
 -- Lines that settle to make room. Assumes nothing.
-use Rattle.std.proofs.Common.{◌≡◌, ℕ, zero, suc, ◌+◌, ◌-◌, ◌*◌, ◌/◌, ◌<◌, ◌≤◌, Bool, true, false, cond, not, ◌&&◌, ◌||◌, eqb, leb, ◌⊎◌, List, [], ◌∷◌, ◌++◌, length, get_or, take, drop, filter, sym, refl, ap, ◌∙◌, subst, inl, inr, arith, length-append, length-drop, get_or-drop, drop-drop, eqb-true}
+use Rattle.std.proofs.Common.{◌≡◌, ℕ, suc, ◌+◌, ◌-◌, ◌/◌, ◌<◌, ◌≤◌, Bool, true, false, cond, not, ◌&&◌, ◌||◌, eqb, leb, List, [], ◌∷◌, ◌++◌, length, get_or, take, drop, filter, sym, refl, ap, ◌∙◌, inl, inr, arith, length-append, get_or-drop, drop-drop, eqb-true}
 use Rattle.std.proofs.lemmas.Bool.{and_parts, not-true}
 use Rattle.std.proofs.lemmas.Bool.Decides.{nat_tests}
-use Rattle.device.specs.Pieces.{Piece, settled, unsettled, settled_value, present_value, is_unsettled, MaySettle}
-use Rattle.device.specs.Words.{Word, NvmAct, Store, Flush, Fence, waiting, nvm_makes}
+use Rattle.device.specs.Pieces.{settled, unsettled, settled_value, present_value, is_unsettled, MaySettle}
+use Rattle.device.specs.Words.{Word, Store, waiting, nvm_makes}
 use Rattle.simulated.specs.Lists.{member}
 use Rattle.simulated.specs.Listing.{with_line, without_first}
 use Rattle.simulated.proofs.Members.{no_true, at_member}
 use Rattle.nvm_words.specs.Meant.{line_settled}
 use Rattle.nvm_words.proofs.Lines.{member_take}
-use Rattle.nvms.specs.Natures.{is_crowded, room_made, room_for, eight_line_makes, surplus_settled}
+use Rattle.nvms.specs.Natures.{is_crowded, room_made, room_for}
 
 -- the words of the first i lines settled
 abbrev pub first_settled : ℕ → List ℕ → ℕ → Word → Word

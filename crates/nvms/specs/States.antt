@@ -1,5 +1,5 @@
 -- What the two memories are: their meaning with the acts that are left, and the unsettled lines by age. Assumes nothing.
-use Rattle.std.specs.Prelude.{◌≡◌, ℕ, ◌-◌, Bool, false, cond, List, length, drop}
+use Rattle.std.specs.Prelude.{◌≡◌, ℕ, ◌-◌, false, List, length, drop}
 use Rattle.device.specs.Words.{NvmMeaning, WordMark}
 use Rattle.simulated.specs.Natures.{Simulated}
 use Rattle.nvm_words.specs.declared.mark.Mark.{Mark}

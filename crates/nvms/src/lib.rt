@@ -1,4 +1,6 @@
 //! The two simulated non-volatile memories: a patient one and one that keeps at most eight lines unsettled.
+#![tactic(auto)]
+
 pub mod device;
 pub mod eight_line;
 pub mod patient;

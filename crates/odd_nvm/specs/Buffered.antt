@@ -1,10 +1,10 @@
 -- What the acts do to a buffered word. Assumes nothing.
-use Rattle.std.specs.Prelude.{◌≡◌, ℕ, ◌/◌, ◌<◌, ◌≤◌, Bool, true, false, cond, ◌&&◌, ◌⊎◌, List, length, ◌==◌, ◌≢◌, slice_index, slice_set, refl}
+use Rattle.std.specs.Prelude.{◌≡◌, ℕ, ◌/◌, ◌<◌, ◌≤◌, Bool, true, false, cond, ◌&&◌, List, length, ◌==◌, ◌≢◌, slice_index, slice_set, refl}
 use Rattle.std.proofs.Common.{sym, ap, ◌∙◌, inl, inr, arith, eq-eqb, eqb-true}
 use Rattle.std.proofs.lemmas.Bool.{cases_eq, ne_eqb, true≢false}
 use Rattle.std.proofs.lemmas.List.{get_or-set_same, get_or-set_other}
-use Rattle.device.specs.Pieces.{settled, unsettled, settled_value, present_value, is_unsettled, MaySettle, ComesBack}
-use Rattle.device.specs.Words.{Word, waiting, flushed_word, fenced_word}
+use Rattle.device.specs.Pieces.{settled, unsettled, settled_value, is_unsettled, MaySettle, ComesBack}
+use Rattle.device.specs.Words.{waiting, flushed_word, fenced_word}
 use Rattle.odd_nvm.specs.Buffers.{buffered_word}
 
 pub in_buffer : (t : Bool) (old p : ℕ) → is_unsettled (buffered_word t old p) ≡ t

@@ -1,5 +1,5 @@
 -- What the buffered memory means. Assumes nothing.
-use Rattle.std.specs.Prelude.{ℕ, Bool, false, cond, ◌&&◌, List, vec_items, ◌==◌, slice_index}
+use Rattle.std.specs.Prelude.{ℕ, Bool, false, cond, ◌&&◌, vec_items, ◌==◌, slice_index}
 use Rattle.device.specs.Pieces.{settled, unsettled}
 use Rattle.device.specs.Words.{Word, NvmMeaning, waiting}
 use Rattle.odd_nvm.specs.declared.device.BufferedNvm.{BufferedNvm}

@@ -1,7 +1,6 @@
 -- A refused call changes nothing that can be seen, and a restarted store is in order.
-use Rattle.std.proofs.Common.{◌≡◌, ℕ, ◌+◌, Bool, true, false, cond, ltb, ◌⊎◌, List, [], Some, None, Option, sym, refl, ap, ◌∙◌, subst, inl, inr, arith}
+use Rattle.std.proofs.Common.{◌≡◌, ℕ, Bool, true, false, cond, ltb, ◌⊎◌, List, [], Some, None, Option, sym, refl, ap, subst, inl, inr, arith}
 use Rattle.refusal.specs.declared.reason.Refusal.{Refusal}
-use Rattle.refusal.specs.declared.reason.Refusal.TheVariants.{Dark}
 use Rattle.device.specs.Pieces.{present_value}
 use Rattle.device.specs.Words.{words_of}
 use Rattle.device.specs.Sectors.{sectors_of}
@@ -9,15 +8,14 @@ use Rattle.crash.specs.Pair.{Pair, Act, PerformedPair, settling_both}
 use Rattle.crash.proofs.PairPhases.{any_devices_settle}
 use Rattle.ringlaws.specs.Layout.{records_of}
 use Rattle.calls.specs.declared.state.State.{State}
-use Rattle.calls.specs.declared.state.State.TheVariants.{Unmounted}
 use Rattle.calls.specs.declared.call.Call.{Call}
 use Rattle.calls.specs.declared.call.Call.TheVariants.{Format, Mount, Begin, Set, Clear, Read, Commit, Abandon, Checkpoint, Close}
 use Rattle.calls.specs.declared.answer.Answer.{Answer}
 use Rattle.calls.specs.declared.answer.Answer.TheVariants.{Refused, Done, Used, Blocks}
 use Rattle.calls.specs.Table.{zero_unit}
 use Rattle.calls.specs.Judge.{judge}
-use Rattle.calls.specs.Plans.{Machine, Kind, Plan, places_of, blocks_of, words, fit_sizes, mount_refusal, mount_by, set_refusal, set_by, is_full, refusing, admitted, plan_by, plan_of}
-use Rattle.calls.specs.Steps.{Step, was_dark, went, went_dark, MachineRestarted}
+use Rattle.calls.specs.Plans.{Machine, Kind, Plan, places_of, blocks_of, words, fit_sizes, mount_refusal, mount_by, set_refusal, set_by, is_full, admitted, plan_by}
+use Rattle.calls.specs.Steps.{was_dark, went, went_dark}
 use Rattle.order.specs.Order.{InOrder, EndsThere, SameContents, RefusalsChangeNothing, RestartsGiveOrder}
 use Rattle.order.proofs.Performed.{performed_none}
 use Rattle.order.proofs.Settings.{no_settings}

@@ -1,5 +1,7 @@
 //! A store in order, and that every call keeps it so. There is no code here: each function names what holds of the calls of a
 //! store of any kind of record, so that the check asks for its proof.
+#![tactic(auto)]
+
 ghost use Rattle.order.specs.Order.{kind_of, WritesUnits, OnlyDarknessStopsCalls, CallsKeepOrder, RefusalsChangeNothing, RestartsGiveOrder};
 
 use kinds::kind::RecordKind;

@@ -1,4 +1,6 @@
 //! Why a call is refused: one enum for every layer, and the number of each case.
+#![tactic(auto)]
+
 ghost use Rattle.std.specs.Prelude.{◌≡◌};
 ghost use Rattle.refusal.specs.Numbers.{number_of};
 

@@ -1,15 +1,15 @@
 -- The transactions kept on the walk. Assumes nothing.
-use Rattle.std.proofs.Common.{◌≡◌, ℕ, zero, suc, ◌+◌, ◌-◌, ◌*◌, ◌<◌, ◌≤◌, Bool, true, false, cond, not, ◌⊎◌, List, [], ◌∷◌, ◌++◌, map, reverse, length, get_or, take, vec_items, Vec, sym, refl, ap, ◌∙◌, subst, inl, inr, arith}
+use Rattle.std.proofs.Common.{◌≡◌, ℕ, suc, ◌+◌, ◌<◌, ◌≤◌, Bool, true, false, cond, not, List, [], ◌∷◌, ◌++◌, map, reverse, length, get_or, take, vec_items, Vec, sym, refl, ap, ◌∙◌, arith}
 use mathlib.Core.List.{reverse_aux}
 use Rattle.std.proofs.lemmas.List.{take_more, take_all, length-take-le, map_push, reverse-append}
 use Rattle.std.specs.declared.alloc.Global.{Global}
 use Rattle.refusal.specs.declared.reason.Refusal.{Refusal}
 use Rattle.ringlaws.specs.declared.setting.Setting.{Setting}
 use Rattle.ringlaws.specs.Layout.{Contents, unit_at, place_at, after, is_ring}
-use Rattle.ringlaws.specs.TxnInfo.{Transaction, count_in, numbers_in}
-use Rattle.ringlaws.specs.Sound.{spelled, bad_at, settings_at, transaction_before, stepping_back, step_back}
+use Rattle.ringlaws.specs.TxnInfo.{Transaction}
+use Rattle.ringlaws.specs.Sound.{spelled, settings_at, stepping_back, step_back}
 use Rattle.ringlaws.specs.Laws.{IsTheList}
-use Rattle.ringlaws.proofs.Bad.{step_bad, step_end}
+use Rattle.ringlaws.proofs.Bad.{step_end}
 use Rattle.ringlaws.proofs.Back.{the_list_is_the_one}
 use Rattle.ring.specs.declared.step.Step.{Step}
 use Rattle.ring.specs.Sources.{Reading, Agrees, RefusesWithin}

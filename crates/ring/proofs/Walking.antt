@@ -1,14 +1,13 @@
 -- The walk, step by step. Assumes nothing.
-use Rattle.std.proofs.Common.{◌≡◌, ℕ, ◌+◌, ◌-◌, ◌<◌, ◌≤◌, Bool, true, false, ◌⊎◌, List, [], ◌∷◌, sym, refl, ap, ◌∙◌, subst, inl, inr, arith}
+use Rattle.std.proofs.Common.{◌≡◌, ℕ, ◌-◌, ◌<◌, ◌≤◌, true, List, ◌∷◌, sym, ap, ◌∙◌, subst, inl, inr, arith}
 use Rattle.refusal.specs.declared.reason.Refusal.{Refusal}
-use Rattle.refusal.specs.declared.reason.Refusal.TheVariants.{UnsoundRing}
 use Rattle.ringlaws.specs.Layout.{Contents, before, is_ring}
 use Rattle.ringlaws.specs.TxnInfo.{Transaction, taken, count_in, numbers_in, good_info}
-use Rattle.ringlaws.specs.Sound.{Verdict, spelled, bad_at, info_before, settings_at, stepped, transaction_before, stepping_back, step_back, SoundBetween}
+use Rattle.ringlaws.specs.Sound.{info_before, settings_at, stepped, transaction_before, stepping_back, step_back, SoundBetween}
 use Rattle.ringlaws.proofs.Bad.{step_good, step_bad, step_end}
 use Rattle.ringlaws.proofs.Places.{before_below}
 use Rattle.ring.specs.declared.step.Step.{Step}
-use Rattle.ring.specs.Sources.{Reading, Agrees, RefusesWithin}
+use Rattle.ring.specs.Sources.{Reading, Agrees}
 use Rattle.ring.specs.Walks.{Stepped, NoStep, WhyRefused, handed_on, unsound}
 
 module _ (reads : Reading) (N B place left : ℕ) (s : Step) (st : Stepped reads N B place left s) where

@@ -1,4 +1,6 @@
 //! The ring of transactions, walked back from any source of words.
+#![tactic(auto)]
+
 pub mod find;
 pub mod list;
 pub mod source;

@@ -1,13 +1,12 @@
 -- A transaction added to a ring, and what does not matter to it. Assumes nothing.
-use Rattle.std.proofs.Common.{◌≡◌, ℕ, zero, suc, ◌+◌, ◌-◌, ◌*◌, ◌<◌, ◌≤◌, true, false, List, [], ◌∷◌, ◌++◌, length, get_or, sym, refl, ap, ◌∙◌, subst, arith, length-append}
+use Rattle.std.proofs.Common.{◌≡◌, ℕ, ◌+◌, ◌-◌, ◌<◌, [], ◌∷◌, ◌++◌, length, sym, ap, ◌∙◌, arith}
 use Rattle.std.proofs.lemmas.Bool.{leb-true}
-use Rattle.ringlaws.specs.Layout.{Contents, head_of, tail_of, head_word, tail_word, place_at, after, used_between, used, units_from}
-use Rattle.ringlaws.specs.TxnInfo.{Transaction, taken}
-use Rattle.ringlaws.specs.Spells.{units_of, written, Fair, AllFair, SpellsBetween, Spells}
-use Rattle.ringlaws.specs.Appends.{has_room, Appended, SamePlaces}
+use Rattle.ringlaws.specs.Layout.{head_of, tail_of, head_word, place_at, after, used_between, used, units_from}
+use Rattle.ringlaws.specs.TxnInfo.{taken}
+use Rattle.ringlaws.specs.Spells.{units_of, written}
 use Rattle.ringlaws.specs.Laws.{AppendedSpellsOneMore, OnlyUsedPlacesMatter, EmptySpellsNothing}
 use Rattle.ringlaws.proofs.Places.{after_after, after_apart, used_more, used_none, used_below, tail_is, after_below}
-use Rattle.ringlaws.proofs.Units.{units_long, units_are, units_append, units_same, units_of_long, written_push, fair_append}
+use Rattle.ringlaws.proofs.Units.{units_are, units_append, units_same, units_of_long, written_push, fair_append}
 
 pub appended_spells_one_more : AppendedSpellsOneMore
 appended_spells_one_more N B c d ts t h l s fair room a =

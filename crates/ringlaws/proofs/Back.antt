@@ -1,15 +1,15 @@
 -- Stepping back over a ring gives a list exactly if that list spells it. Assumes nothing.
-use Rattle.std.proofs.Common.{◌≡◌, ℕ, zero, suc, ◌+◌, ◌-◌, ◌*◌, ◌<◌, ◌≤◌, Bool, true, false, cond, ◌⊎◌, List, [], ◌∷◌, ◌++◌, length, get_or, sym, refl, ap, ◌∙◌, subst, inl, inr, arith, length-append}
+use Rattle.std.proofs.Common.{◌≡◌, ℕ, zero, suc, ◌+◌, ◌-◌, ◌<◌, ◌≤◌, Bool, true, false, cond, ◌⊎◌, List, [], ◌∷◌, ◌++◌, length, get_or, sym, refl, ap, ◌∙◌, subst, inl, inr, arith, length-append}
 use lib.ListN.{length-map}
 use Rattle.std.proofs.lemmas.Bool.{cond-true}
 use Rattle.std.proofs.lemmas.List.{append_assoc, append-nil, get_or_append_left, get_or_at}
-use Rattle.ringlaws.specs.Layout.{Contents, unit_at, place_at, after, before, used_between, units_from, records_of}
+use Rattle.ringlaws.specs.Layout.{Contents, place_at, after, before, used_between, units_from, records_of}
 use Rattle.ringlaws.specs.TxnInfo.{Transaction, numbers_of, record_units, info_unit, count_limit, taken, count_in, numbers_in, distinct, all_below, good_info}
-use Rattle.ringlaws.specs.Spells.{units_of, written, Whole, Fair, AllFair, SpellsBetween}
+use Rattle.ringlaws.specs.Spells.{units_of, written, Fair, AllFair, SpellsBetween}
 use Rattle.ringlaws.specs.Sound.{Verdict, spelled, bad_at, info_before, settings_at, stepped, transaction_before, stepping_back, step_back}
-use Rattle.ringlaws.specs.Laws.{SoundExactlyIfSpelled, OnlyOneList, EveryWordComesBack, IsTheList, TheListIsTheOne}
-use Rattle.ringlaws.proofs.Places.{before_after, after_after, after_below, tail_is, used_below}
-use Rattle.ringlaws.proofs.Infos.{Good, good, good_is_info, numbers_long, info_good, info_count, info_numbers}
+use Rattle.ringlaws.specs.Laws.{SoundExactlyIfSpelled, OnlyOneList, EveryWordComesBack, TheListIsTheOne}
+use Rattle.ringlaws.proofs.Places.{before_after, after_after, tail_is, used_below}
+use Rattle.ringlaws.proofs.Infos.{good, good_is_info, numbers_long, info_good, info_count, info_numbers}
 use Rattle.ringlaws.proofs.Units.{unit_long, unit_word, units_long, units_at, units_append, units_push, split_same, units_of_long, written_push, fair_append, fair_front, last_of, settings_numbers, settings_long, settings_whole, settings_units, settings_are}
 
 module _ (N B : ℕ) (c : Contents) (head : ℕ) (inside : head < N) where

@@ -1,13 +1,12 @@
 -- The place at which stepping back stops, and how one step goes on. Assumes nothing.
-use Rattle.std.proofs.Common.{◌≡◌, ℕ, zero, suc, ◌+◌, ◌-◌, ◌<◌, ◌≤◌, Bool, true, false, cond, List, [], ◌∷◌, ◌++◌, length, sym, refl, ap, ◌∙◌, subst, arith, length-append}
+use Rattle.std.proofs.Common.{◌≡◌, ℕ, zero, suc, ◌+◌, ◌-◌, ◌<◌, ◌≤◌, Bool, true, false, cond, List, [], ◌∷◌, ◌++◌, length, sym, refl, ap, ◌∙◌, arith, length-append}
 use Rattle.std.proofs.lemmas.Bool.{cond-true, cond-false}
 use Rattle.ringlaws.specs.Layout.{Contents, place_at, after, before, used_between, units_from}
 use Rattle.ringlaws.specs.TxnInfo.{Transaction, taken, count_in, good_info}
-use Rattle.ringlaws.specs.Spells.{units_of, written, Fair, AllFair, SpellsBetween}
+use Rattle.ringlaws.specs.Spells.{units_of, written, AllFair, SpellsBetween}
 use Rattle.ringlaws.specs.Sound.{Verdict, spelled, bad_at, info_before, stepped, transaction_before, stepping_back, step_back}
 use Rattle.ringlaws.specs.Laws.{FirstBad, ABadPlaceIsTheFirst}
 use Rattle.ringlaws.proofs.Places.{after_after, after_below, before_below, tail_is, used_below}
-use Rattle.ringlaws.proofs.Infos.{Good, good}
 use Rattle.ringlaws.proofs.Units.{units_append, units_long}
 use Rattle.ringlaws.proofs.Back.{Found, found, sound_exactly_if_spelled}
 

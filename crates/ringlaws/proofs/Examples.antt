@@ -1,5 +1,5 @@
 -- The worked examples hold. Assumes nothing.
-use Rattle.std.proofs.Common.{◌≡◌, ℕ, ◌<◌, ◌≤◌, true, false, ◌⊎◌, List, [], refl, inl, inr, arith}
+use Rattle.std.proofs.Common.{◌≡◌, ℕ, ◌≤◌, true, false, ◌⊎◌, List, [], refl, inl, inr, arith}
 use Rattle.std.proofs.lemmas.Bool.{cases_Bool}
 use Rattle.ringlaws.specs.Layout.{used_between}
 use Rattle.ringlaws.specs.TxnInfo.{count_in, count_limit, good_info}

@@ -1,18 +1,17 @@
 -- The newest place of a record, and the latest unit that a list has for it. Assumes nothing.
 use Rattle.std.proofs.Common.{◌≡◌, ℕ, zero, suc, ◌+◌, ◌-◌, ◌<◌, ◌≤◌, Bool, true, false, cond, eqb, ◌⊎◌, List, [], ◌∷◌, ◌++◌, length, get_or, Some, None, Option, unwrap_or, sym, refl, ap, ◌∙◌, subst, inl, inr, arith}
-use lib.ListN.{length-map}
 use Rattle.std.specs.Option.{option_map}
 use Rattle.std.proofs.lemmas.Bool.{cond-true, cond-false}
 use Rattle.ringlaws.specs.Layout.{Contents, place_at, after, before, used_between, units_from}
-use Rattle.ringlaws.specs.TxnInfo.{Transaction, numbers_of, record_units, taken, count_in, numbers_in, good_count, good_info}
-use Rattle.ringlaws.specs.Spells.{written, Fair, AllFair, SpellsBetween}
+use Rattle.ringlaws.specs.TxnInfo.{Transaction, numbers_of, record_units, taken, count_in, numbers_in, good_count}
+use Rattle.ringlaws.specs.Spells.{written, AllFair}
 use Rattle.ringlaws.specs.Sound.{info_before, stepped}
-use Rattle.ringlaws.specs.Newest.{setting_of, or_else, latest, lay, laid, index_of, seeking_back, newest}
+use Rattle.ringlaws.specs.Newest.{setting_of, or_else, latest, lay, laid, index_of, seeking_back}
 use Rattle.ringlaws.specs.Laws.{NewestHoldsTheLatest, NewestIsAPlace, LaidIsTheLatest, LaidOneMore, LaidAgainIsTheSame}
-use Rattle.ringlaws.proofs.Places.{before_after, before_below, after_below, tail_is, used_below}
+use Rattle.ringlaws.proofs.Places.{before_after, before_below, tail_is, used_below}
 use Rattle.ringlaws.proofs.Infos.{good_count_lem}
 use Rattle.ringlaws.proofs.Units.{fair_front, last_of}
-use Rattle.ringlaws.proofs.Back.{Last, last, something_written, nothing_written}
+use Rattle.ringlaws.proofs.Back.{last, something_written, nothing_written}
 
 or_none : {X : Type 0} (o : Option X) → or_else o None ≡ o
 or_none None = refl

@@ -1,16 +1,14 @@
 -- Units of places in a row, and what transactions are written as. Assumes nothing.
-use Rattle.std.proofs.Common.{◌≡◌, ℕ, zero, suc, ◌+◌, ◌-◌, ◌*◌, ◌<◌, ◌≤◌, Bool, true, false, ◌⊎◌, List, [], ◌∷◌, ◌++◌, map, length, get_or, take, drop, sym, refl, ap, ◌∙◌, subst, inl, inr, arith, length-append}
+use Rattle.std.proofs.Common.{◌≡◌, ℕ, zero, suc, ◌+◌, ◌-◌, ◌*◌, ◌<◌, ◌≤◌, ◌⊎◌, List, [], ◌∷◌, ◌++◌, length, get_or, take, drop, sym, refl, ap, ◌∙◌, inl, inr, arith, length-append}
 use lib.ListN.{length-map}
-use Rattle.std.specs.List.{range_with_len}
 use Rattle.std.proofs.lemmas.Bool.{cases_lt}
 use Rattle.std.proofs.lemmas.List.FromFn.{length-map-range_with_len, get_or-map-range_with_len, map-range_with_len_more, fill_by_all}
-use Rattle.std.proofs.lemmas.List.{append_assoc, append-nil, ext_get_or, get_or_append_left, get_or-append_right, take_at, drop_at, same_from_push}
-use Rattle.ringlaws.specs.declared.setting.Setting.{Setting}
+use Rattle.std.proofs.lemmas.List.{append_assoc, append-nil, get_or_append_left, get_or-append_right, take_at, drop_at}
 use Rattle.ringlaws.specs.Layout.{Contents, unit_at, place_at, after, units_from}
 use Rattle.ringlaws.specs.TxnInfo.{Transaction, numbers_of, record_units, info_unit, taken}
-use Rattle.ringlaws.specs.Spells.{units_of, written, Whole, Fair, AllFair}
+use Rattle.ringlaws.specs.Spells.{units_of, written, Whole, AllFair}
 use Rattle.ringlaws.specs.Sound.{settings_at}
-use Rattle.ringlaws.proofs.Places.{after_after, after_below, after_none}
+use Rattle.ringlaws.proofs.Places.{after_after}
 
 pub unit_long : (c : Contents) (u : ℕ) → length (unit_at c u) ≡ 32
 unfolding unit_at

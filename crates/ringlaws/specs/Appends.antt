@@ -1,5 +1,5 @@
 -- A transaction added to the ring: what its places, the tail and everything else hold then. Assumes nothing.
-use Rattle.std.specs.Prelude.{◌≡◌, ℕ, ◌+◌, ◌-◌, ◌*◌, ◌<◌, ◌≤◌, Bool, List, [], ◌∷◌, length, ◌≢◌, nat_le, slice_index_or}
+use Rattle.std.specs.Prelude.{◌≡◌, ℕ, ◌+◌, ◌-◌, ◌*◌, ◌<◌, ◌≤◌, Bool, [], length, ◌≢◌, nat_le, slice_index_or}
 use Rattle.ringlaws.specs.Layout.{Contents, head_of, tail_of, tail_word, place_at, after}
 use Rattle.ringlaws.specs.TxnInfo.{Transaction, taken}
 use Rattle.ringlaws.specs.Spells.{units_of}

@@ -1,5 +1,5 @@
 -- Worked examples of the layout, as facts.
-use Rattle.std.specs.Prelude.{◌≡◌, ℕ, ◌<◌, List, [], ◌∷◌, ◌++◌, replicate}
+use Rattle.std.specs.Prelude.{◌≡◌, ℕ, ◌<◌, [], ◌∷◌, ◌++◌, replicate}
 use Rattle.ringlaws.specs.Layout.{Contents, home_block, home_word, used_between, before}
 use Rattle.ringlaws.specs.TxnInfo.{info_unit, count_in, magic}
 use Rattle.ringlaws.specs.Sound.{bad_at, info_before, step_back}

@@ -1,10 +1,10 @@
 -- What holds of every ring: the theorems. head and tail are places of a ring of N.
-use Rattle.std.specs.Prelude.{◌≡◌, ℕ, zero, suc, ◌+◌, ◌-◌, ◌*◌, ◌<◌, ◌≤◌, true, false, ◌⊎◌, List, [], ◌∷◌, ◌++◌, length, Some, None, Option, slice_index, slice_index_or}
+use Rattle.std.specs.Prelude.{◌≡◌, ℕ, ◌+◌, ◌*◌, ◌<◌, ◌≤◌, true, false, ◌⊎◌, List, [], ◌∷◌, ◌++◌, length, Some, slice_index, slice_index_or}
 use Rattle.std.specs.Option.{option_map, unwrap_or}
 use Rattle.ringlaws.specs.Layout.{Contents, head_of, tail_of, place_at, after, before, used_between, used, units_from}
 use Rattle.ringlaws.specs.TxnInfo.{Transaction, taken, good_info}
 use Rattle.ringlaws.specs.Spells.{written, Fair, AllFair, SpellsBetween, Spells}
-use Rattle.ringlaws.specs.Sound.{Verdict, spelled, bad_at, info_before, step_back, Sound}
+use Rattle.ringlaws.specs.Sound.{spelled, bad_at, step_back}
 use Rattle.ringlaws.specs.Newest.{latest, lay, laid, newest}
 use Rattle.ringlaws.specs.Appends.{has_room, Appended, SamePlaces}
 

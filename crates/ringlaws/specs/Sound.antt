@@ -1,6 +1,5 @@
 -- Stepping back from the tail, transaction by transaction, over the used places. Assumes nothing.
 use Rattle.std.specs.Prelude.{◌≡◌, ℕ, zero, suc, ◌-◌, cond, List, [], ◌∷◌}
-use Rattle.ringlaws.specs.declared.setting.Setting.{Setting}
 use Rattle.ringlaws.specs.Layout.{Contents, head_of, tail_of, place_at, after, before, used_between}
 use Rattle.ringlaws.specs.TxnInfo.{Transaction, taken, count_in, numbers_in, good_info}
 

@@ -1,7 +1,7 @@
 -- Units and places of an image, filled. Assumes nothing.
-use Rattle.std.proofs.Common.{◌≡◌, ℕ, suc, ◌+◌, ◌-◌, ◌*◌, ◌/◌, ◌<◌, ◌≤◌, true, ◌&&◌, leb, ◌≢◌, ◌⊎◌, List, [], ◌∷◌, length, get_or, set, sym, refl, ap, ◌∙◌, subst, inl, inr, arith, length-set, get_or-set_other, get_or-set_same, below_more}
+use Rattle.std.proofs.Common.{◌≡◌, ℕ, ◌+◌, ◌*◌, ◌/◌, ◌<◌, ◌≤◌, true, ◌&&◌, leb, ◌≢◌, ◌⊎◌, List, [], length, get_or, set, sym, refl, ap, ◌∙◌, inl, inr, arith, length-set, get_or-set_other, get_or-set_same, below_more}
 use Rattle.std.proofs.lemmas.Bool.{cases_lt, and_parts, leb-true}
-use Rattle.ringlaws.specs.Layout.{Contents, tail_of, most_places, is_ring, used, unit_at, place_at, after}
+use Rattle.ringlaws.specs.Layout.{most_places, is_ring, used, unit_at, after}
 use Rattle.ringlaws.specs.TxnInfo.{Transaction, count_limit, taken}
 use Rattle.ringlaws.specs.Spells.{units_of}
 use Rattle.ringlaws.specs.Appends.{has_room, Appended}

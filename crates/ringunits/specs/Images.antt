@@ -1,8 +1,7 @@
 -- A ring in a list of words, and what writing to it leaves. Assumes nothing.
-use Rattle.std.specs.Prelude.{◌≡◌, ℕ, ◌+◌, ◌*◌, ◌/◌, ◌<◌, Bool, true, false, ◌&&◌, List, [], ◌∷◌, length, Some, None, Option, ◌≢◌, nat_le, slice_index, slice_index_or}
+use Rattle.std.specs.Prelude.{◌≡◌, ℕ, ◌+◌, ◌*◌, ◌/◌, ◌<◌, Bool, true, false, ◌&&◌, List, [], length, Some, None, Option, ◌≢◌, nat_le, slice_index, slice_index_or}
 use Rattle.ringlaws.specs.Layout.{Contents, head_of, tail_of, most_places, is_ring, used, unit_at, after}
 use Rattle.ringlaws.specs.TxnInfo.{Transaction, count_limit, taken}
-use Rattle.ringlaws.specs.Spells.{units_of}
 use Rattle.ringlaws.specs.Appends.{has_room, Appended}
 
 -- the contents of an image

@@ -1,4 +1,6 @@
 //! The places of a ring, its units judged, and its units written.
+#![tactic(auto)]
+
 pub mod fill;
 pub mod info;
 pub mod places;

@@ -1,5 +1,5 @@
 -- The three laws of the tile kind, and which units read as a tile.
-use Rattle.std.specs.Prelude.{◌≡◌, ℕ, ◌^◌, ◌<◌, ◌≤◌, Bool, true, false, cond, List, length, ℤ, pos, is_some, Some, None, Ok, Err, Option, Result, MatchResult, ◌≢◌, nat_le, slice_index, refl}
+use Rattle.std.specs.Prelude.{◌≡◌, ℕ, ◌^◌, ◌<◌, Bool, true, false, cond, List, length, ℤ, pos, is_some, Some, None, Ok, Err, Option, Result, MatchResult, ◌≢◌, nat_le, slice_index, refl}
 use Rattle.std.proofs.Common.{ap, sym, subst, ◌∙◌, inl, inr, arith}
 use denote.Struct.Record.{values_one}
 use Rattle.std.specs.Result.{result_ok}
@@ -13,7 +13,7 @@ use Rattle.layout.proofs.Each.{each_at, each_from}
 use Rattle.tile.specs.Ranges.{is_level, is_place, is_tile}
 use Rattle.tile.specs.declared.record.Tile.{Tile}
 use Rattle.tile.specs.contracts.record.Tile.{struct, the_propositions}
-use Rattle.tile.specs.Tiles.{tile_refusal, Made, tile_words, tile_unit, level_at, levels_in, levels_in_long, tile_if, tile_reads, TileShape, TilesReadExactly}
+use Rattle.tile.specs.Tiles.{tile_refusal, Made, tile_words, tile_unit, levels_in, levels_in_long, tile_if, tile_reads, TileShape, TilesReadExactly}
 use Rattle.tile.specs.Units.{level_at_lem, levels_back, level_in, unit_whole}
 
 -- tiles with the same fields are the same

@@ -1,10 +1,9 @@
 -- The words of a tile's unit and the levels that stand in them.
-use Rattle.std.specs.Prelude.{◌≡◌, ℕ, zero, suc, ◌+◌, ◌*◌, ◌/◌, ◌%◌, ◌^◌, ◌<◌, ◌≤◌, true, List, length, get_or, ℤ, pos, FitsSigned, slice_index, slice_index_or, refl}
+use Rattle.std.specs.Prelude.{◌≡◌, ℕ, zero, suc, ◌+◌, ◌*◌, ◌/◌, ◌%◌, ◌^◌, ◌<◌, true, List, length, get_or, ℤ, pos, FitsSigned, slice_index, slice_index_or, refl}
 use Rattle.std.proofs.Math.Path.{ap, sym}
 use Rattle.std.proofs.Common.{◌∙◌, inl, inr, of_z, to_z}
 use native.Mathlib.Omega.{arith}
 use Rattle.std.specs.Int.{w16}
-use Rattle.std.specs.List.{range_with_len}
 use Rattle.std.proofs.lemmas.Nat.{mod_below}
 use Rattle.std.proofs.lemmas.List.FromFn.{length-map-range_with_len, get_or-map-range_with_len, fill_by_all}
 use Rattle.std.proofs.lemmas.List.{ext_get_or, get_or_past}
@@ -15,7 +14,7 @@ use Rattle.layout.specs.Lists.{each}
 use Rattle.layout.proofs.Fields.{fields_come_back, words_come_back, packed_same}
 use Rattle.layout.proofs.Each.{each_at}
 use Rattle.tile.specs.Ranges.{is_level}
-use Rattle.tile.specs.Tiles.{level_bits, level_words, tile_words, level_at, levels_in, levels_in_long}
+use Rattle.tile.specs.Tiles.{level_bits, level_words, tile_words, level_at, levels_in}
 
 -- a level fits 16 bits
 pub level_fits : (z : ℤ) → is_level z ≡ true → FitsSigned w16 z

@@ -1,5 +1,7 @@
 //! Reads lines from standard input, and says what was done about each: tiles and masts made, transactions of them committed to
 //! a ring, the ring walked and damaged, and a memory whose power is cut.
+#![tactic(auto)]
+
 mod memory;
 mod ring;
 

@@ -1,4 +1,6 @@
 //! Answers in words that a planner understands. Nothing is proved of these texts but that they can always be written.
+#![tactic(auto)]
+
 use joined::record::Joined;
 use mast::record::Mast;
 use refusal::reason::Refusal;

@@ -1,5 +1,5 @@
 -- A field that was found, or that is not there, as the definitions read it.
-use Rattle.std.proofs.Common.{◌≡◌, ℕ, zero, suc, List, [], ◌∷◌, get_or, Some, None, sym, refl, arith}
+use Rattle.std.proofs.Common.{◌≡◌, ℕ, zero, suc, List, [], ◌∷◌, get_or, Some, None, refl, arith}
 use Rattle.std.specs.List.{slice_get}
 
 pub fetched : {X : Type 0} (xs : List X) (k : ℕ) (x d : X) → Some x ≡ slice_get xs k → x ≡ get_or xs k d

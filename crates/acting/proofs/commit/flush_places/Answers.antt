@@ -1,4 +1,4 @@
-use Rattle.std.proofs.Common.{◌≡◌, ◌+◌, ◌*◌, arith}
+use Rattle.std.proofs.Common.{◌≡◌, ◌+◌, ◌*◌}
 use Rattle.crash.specs.Rows.{flushing}
 use Rattle.crash.proofs.Runs.{loop_none, loop_more, loop_stops}
 use Rattle.ringlaws.specs.Layout.{after}

@@ -1,5 +1,5 @@
-use Rattle.std.proofs.Common.{◌≡◌, [], ◌∷◌, ◌++◌, length}
-use Rattle.device.specs.Words.{Fence, nvm_rules}
+use Rattle.std.proofs.Common.{◌≡◌, length}
+use Rattle.device.specs.Words.{nvm_rules}
 use Rattle.crash.proofs.Runs.{stopped_first, stopped_second}
 use Rattle.ringlaws.specs.TxnInfo.{taken}
 use Rattle.calls.specs.Acts.{flushing_places}

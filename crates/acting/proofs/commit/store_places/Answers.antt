@@ -1,4 +1,4 @@
-use Rattle.std.proofs.Common.{◌≡◌, ◌+◌, ◌*◌, ◌<◌, [], length, get_or, sym, ap, ◌∙◌, arith}
+use Rattle.std.proofs.Common.{◌≡◌, ◌+◌, ◌*◌, ◌<◌, [], length, get_or, arith}
 use Rattle.crash.specs.Rows.{storing}
 use Rattle.crash.proofs.Runs.{loop_none, loop_more, loop_stops}
 use Rattle.ringlaws.specs.Layout.{after}

@@ -1,5 +1,5 @@
-use Rattle.std.proofs.Common.{ℕ, sym, refl, ◌∙◌, arith}
-use Rattle.calls.specs.declared.state.State.TheVariants.{Unmounted, Idle}
+use Rattle.std.proofs.Common.{sym, ◌∙◌}
+use Rattle.calls.specs.declared.state.State.TheVariants.{Idle}
 use Rattle.order.specs.Order.{kind_of}
 use Rattle.calling.proofs.Mounted.{ended, count, checkpoint_stepped, close_stepped, idle_mounted}
 use Rattle.calling.proofs.checkpoint.checkpoint_call.Goals as goal

@@ -1,6 +1,5 @@
-use Rattle.std.proofs.Common.{◌≡◌, ℕ, ◌+◌, ◌<◌, sym, ◌∙◌, subst, arith}
+use Rattle.std.proofs.Common.{ℕ, ◌<◌, sym, ◌∙◌, subst, arith}
 use Rattle.device.specs.Words.{words_of}
-use Rattle.ringlaws.specs.Layout.{head_of, tail_of, ground_mark}
 use Rattle.checkpointing.proofs.Loading.{loads_agree}
 use Rattle.calling.proofs.Asking.{carried, is_sound, why}
 use Rattle.calling.proofs.contents.check_contents.Goals as goal

@@ -1,4 +1,4 @@
-use Rattle.std.proofs.Common.{ℕ, ◌+◌, ◌*◌, false, take, arith}
+use Rattle.std.proofs.Common.{◌+◌, ◌*◌, false, take, arith}
 use Rattle.std.proofs.lemmas.List.{get_or-take}
 use Rattle.disks.specs.State.{blocks_in}
 use Rattle.disks.specs.Parts.{same_sector, same_parts}

@@ -1,4 +1,4 @@
-use Rattle.std.proofs.Common.{length, ap, arith}
+use Rattle.std.proofs.Common.{length, arith}
 use Rattle.std.proofs.lemmas.List.{at_drop_all}
 use Rattle.lines.specs.Pieces.{parted, fields_of}
 use Rattle.lines.proofs.Found.{tab_counts, other_counts}

@@ -1,4 +1,4 @@
-use Rattle.std.proofs.Common.{◌≡◌, get_or, sym, ◌∙◌, arith, below_more}
+use Rattle.std.proofs.Common.{get_or, sym, arith, below_more}
 use Rattle.std.proofs.lemmas.Bool.{eq-eqb, ne_eqb}
 use Rattle.layout.proofs.Each.{each_from, each_fails}
 use Rattle.mast.specs.Names.{is_padding}

@@ -1,4 +1,4 @@
-use Rattle.std.proofs.Common.{◌≡◌, sym, ◌∙◌, arith, below_more}
+use Rattle.std.proofs.Common.{sym, arith, below_more}
 use Rattle.layout.proofs.Each.{each_from, each_fails}
 use Rattle.mast.specs.Names.{is_printed}
 use Rattle.mast.proofs.make.are_printed.Goals as goal

@@ -1,4 +1,4 @@
-use Rattle.std.proofs.Common.{◌≡◌, sym, refl, ap, ◌∙◌}
+use Rattle.std.proofs.Common.{sym, ap, ◌∙◌}
 use Rattle.simulated.specs.declared.pending.Pending.{Pending}
 use Rattle.simulated.specs.Listing.{lines_of}
 use Rattle.nvm_words.specs.Marks.{any_marked}

@@ -1,4 +1,4 @@
-use Rattle.std.proofs.Common.{◌≡◌, sym, ap, ◌∙◌, arith}
+use Rattle.std.proofs.Common.{sym, arith}
 use Rattle.nvm_words.proofs.Any.{any_zero, any_more, any_true}
 use Rattle.nvm_words.proofs.rows.any_unsettled.Goals as goal
 

@@ -1,5 +1,4 @@
-use Rattle.std.proofs.Common.{◌≡◌, ℕ, ◌-◌, ◌<◌, List, length, get_or, drop, sym, refl, ap, ◌∙◌, arith, length-drop}
-use Rattle.device.specs.Words.{Word}
+use Rattle.std.proofs.Common.{◌≡◌, ℕ, ◌-◌, ◌<◌, List, length, get_or, drop, refl, ap, ◌∙◌, arith, length-drop}
 use Rattle.simulated.specs.Listing.{without_first}
 use Rattle.nvm_words.specs.Meant.{meant, unsettled_lines, line_settled}
 use Rattle.nvm_words.proofs.Performing.{became_then, became_like}

@@ -1,4 +1,4 @@
-use Rattle.std.proofs.Common.{◌≡◌, ◌<◌, List, map, reverse, vec_items}
+use Rattle.std.proofs.Common.{◌≡◌, ◌<◌, map, reverse, vec_items}
 use Rattle.ringlaws.specs.Layout.{Contents}
 use Rattle.ringlaws.specs.Sound.{stepping_back, step_back}
 use Rattle.ring.specs.Sources.{Agrees}

@@ -1,4 +1,4 @@
-use Rattle.std.proofs.Common.{◌+◌, vec_items, sym, refl, ◌∙◌, inl, inr, arith}
+use Rattle.std.proofs.Common.{◌+◌, vec_items, refl, ◌∙◌, inl, inr, arith}
 use Rattle.std.proofs.lemmas.Result.{err_from_is_err_and}
 use Rattle.ringlaws.proofs.Places.{after_below}
 use Rattle.ring.proofs.Listing.{pushed, wider, settings_none, read_more, read_all}

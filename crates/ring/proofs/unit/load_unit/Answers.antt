@@ -1,4 +1,4 @@
-use Rattle.std.proofs.Common.{◌≡◌, ◌+◌, ◌*◌, ◌<◌, ◌≢◌, length, sym, refl, ◌∙◌, arith, length-set, get_or-set_other, get_or-set_same, below_more}
+use Rattle.std.proofs.Common.{◌+◌, ◌*◌, ◌<◌, ◌≢◌, length, sym, refl, ◌∙◌, arith, length-set, get_or-set_other, get_or-set_same, below_more}
 use Rattle.ringlaws.proofs.Units.{unit_is}
 use Rattle.ring.proofs.unit.load_unit.Goals as goal
 

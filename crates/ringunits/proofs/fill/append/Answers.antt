@@ -1,4 +1,4 @@
-use Rattle.std.proofs.Common.{◌≡◌, length, get_or, sym, ◌∙◌, arith, length-set}
+use Rattle.std.proofs.Common.{length, sym, ◌∙◌, arith, length-set}
 use Rattle.ringunits.proofs.Filling.{tail_moved, can_long, can_tail}
 use Rattle.ringunits.proofs.fill.append.Goals as goal
 

@@ -1,4 +1,3 @@
-use Rattle.std.proofs.Common.{arith}
 use Rattle.ringunits.proofs.Filling.{filling_none, filling_more, filling_all}
 use Rattle.ringunits.proofs.fill.fill.Goals as goal
 

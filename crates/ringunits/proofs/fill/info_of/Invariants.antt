@@ -1,4 +1,4 @@
-use Rattle.std.proofs.Common.{◌≡◌, ℕ, ◌<◌, ◌≤◌, length, get_or}
+use Rattle.std.proofs.Common.{◌≡◌, ℕ, ◌<◌, length, get_or}
 use Rattle.ringlaws.specs.TxnInfo.{numbers_of}
 use Rattle.ringunits.proofs.fill.info_of.Given as goal
 

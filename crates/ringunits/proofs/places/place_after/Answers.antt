@@ -1,4 +1,4 @@
-use Rattle.std.proofs.Common.{◌+◌, ◌-◌, arith}
+use Rattle.std.proofs.Common.{◌+◌, arith}
 use Rattle.ringlaws.proofs.Places.{wrap}
 use Rattle.ringunits.proofs.places.place_after.Goals as goal
 

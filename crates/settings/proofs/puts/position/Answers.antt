@@ -1,5 +1,4 @@
-use Rattle.std.proofs.Common.{◌≡◌, length, sym, ◌∙◌, arith, below_more}
-use Rattle.std.proofs.lemmas.List.{length-map}
+use Rattle.std.proofs.Common.{sym, ◌∙◌, arith, below_more}
 use Rattle.ringlaws.specs.TxnInfo.{numbers_of}
 use Rattle.settings.proofs.Positions.{first_here, nowhere, number_at, as_long}
 use Rattle.settings.proofs.puts.position.Goals as goal

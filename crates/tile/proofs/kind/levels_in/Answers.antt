@@ -1,4 +1,4 @@
-use Rattle.std.proofs.Common.{◌≡◌, ℕ, ◌<◌, ◌≢◌, length, pos, sym, refl, ◌∙◌, arith, length-set, get_or-set_other, get_or-set_same, w16, SFits, rules, below_more}
+use Rattle.std.proofs.Common.{◌<◌, ◌≢◌, length, pos, refl, ◌∙◌, arith, length-set, get_or-set_other, get_or-set_same, w16, SFits, rules, below_more}
 use Rattle.std.proofs.lemmas.Int.{to_z-of_z}
 use Rattle.std.proofs.lemmas.List.FromFn.{fill_by_all}
 use Rattle.tile.specs.Tiles.{level_at, levels_in}

@@ -1,4 +1,4 @@
-use Rattle.std.proofs.Common.{◌≡◌, Bool, List, get_or, ℤ, pos, sym, ap, ◌∙◌, arith, w16, SFits, to_z, of_z, rules, below_more}
+use Rattle.std.proofs.Common.{◌≡◌, Bool, get_or, ℤ, pos, sym, ap, ◌∙◌, arith, w16, SFits, to_z, of_z, rules, below_more}
 use Rattle.std.proofs.lemmas.Int.{to_z-of_z}
 use Rattle.layout.proofs.Each.{each_from, each_fails}
 use Rattle.tile.specs.Ranges.{is_level}

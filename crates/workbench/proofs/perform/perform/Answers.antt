@@ -1,4 +1,4 @@
-use Rattle.std.proofs.Common.{◌≡◌, replicate, ℤ, Some, sym, subst, w16, SFits, rules}
+use Rattle.std.proofs.Common.{replicate, ℤ, Some, sym, subst, w16, SFits, rules}
 use Rattle.std.proofs.lemmas.Int.{to_z-of_z}
 use Rattle.tile.specs.Tiles.{Made, tile_refusal}
 use Rattle.joined.specs.declared.record.Joined.TheVariants.{Tile}

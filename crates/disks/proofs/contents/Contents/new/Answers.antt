@@ -1,4 +1,4 @@
-use Rattle.std.proofs.Common.{◌≡◌, ℕ, ◌*◌, min, Bool, false, List, get_or, take, ap, ◌∙◌, arith}
+use Rattle.std.proofs.Common.{◌≡◌, ℕ, ◌*◌, Bool, false, List, get_or, take, ap, ◌∙◌, arith}
 use Rattle.simulated.specs.declared.supply.Supply.{Supply}
 use Rattle.disks.specs.State.{disk_of, blocks_in, made_of}
 use Rattle.disks.proofs.contents.Contents.new.Goals as goal

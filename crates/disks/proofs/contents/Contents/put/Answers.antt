@@ -20,9 +20,15 @@ listed_more x y lines b s hx h e = member_with (s / 8) b lines ∙ by_test (eqb 
 
 pub invariant_of-self : goal.invariant_of-self
 invariant_of-self c =
-    let d = c.args.self.now in record { olds = d.olds; news = d.news; eights = d.eights; lists = c.add.ensures.size ∙ d.lists; listed = (λ s h. ap (member (s / 8)) c.add.ensures.lines ∙ listed_more _ _ (lines_of d.pending) c.args.block s
-                  (lent_at false d.waiting _ _ c.as_mut_slice-3.ensures.value c.set_marks.auto.marks s ∙ c.set_marks.ensures s)
-                  (λ e. d.listed s (ap (λ (xs : List Bool). get_or xs s false) (sym c.as_mut_slice-3.ensures.value) ∙ e)) h) }
+    let d = c.args.self.now in record {
+      olds = d.olds;
+      news = d.news;
+      eights = d.eights;
+      lists = c.add.ensures.size ∙ d.lists;
+      listed = (λ s h. ap (member (s / 8)) c.add.ensures.lines ∙ listed_more _ _ (lines_of d.pending) c.args.block s
+          (lent_at false d.waiting _ _ c.as_mut_slice-3.ensures.value c.set_marks.auto.marks s ∙ c.set_marks.ensures s)
+          (λ e. d.listed s (ap (λ (xs : List Bool). get_or xs s false) (sym c.as_mut_slice-3.ensures.value) ∙ e)) h);
+    }
 
 pub returns : goal.returns
 returns c =

@@ -1,5 +1,5 @@
-use Rattle.std.proofs.Common.{◌≡◌, ℕ, ◌≤◌, true, List, length, get_or, take, sym, refl, ap, ◌∙◌, subst}
-use Rattle.mast.specs.Names.{is_name, short, padded, padded_whole, padded_name, padded_after}
+use Rattle.std.proofs.Common.{◌≡◌, ℕ, ◌≤◌, true, List, length, get_or, take, sym, refl, ap, ◌∙◌}
+use Rattle.mast.specs.Names.{is_name, short, padded_whole, padded_name, padded_after}
 use Rattle.mast.specs.Units.{name_fits}
 use Rattle.mast.proofs.record.Mast.new.Goals as goal
 

@@ -1,4 +1,4 @@
-use Rattle.std.proofs.Common.{◌≡◌, ℕ, List, IsUtf8, sym, subst}
+use Rattle.std.proofs.Common.{IsUtf8, sym, subst}
 use Rattle.mast.specs.Masts.{name_of}
 use Rattle.mast.specs.Units.{name_text}
 use Rattle.mast.proofs.record.Mast.text.Goals as goal

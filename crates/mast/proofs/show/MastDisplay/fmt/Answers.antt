@@ -1,4 +1,3 @@
-use Rattle.std.proofs.Common.{◌≡◌}
 use Rattle.mast.proofs.show.MastDisplay.fmt.Goals as goal
 
 pub returns-clause-writes : goal.returns-clause-writes

@@ -1,4 +1,4 @@
-use Rattle.std.proofs.Common.{◌≡◌, ◌+◌, ◌*◌, filter, sym, refl, ap, ◌∙◌}
+use Rattle.std.proofs.Common.{◌+◌, ◌*◌, filter, ap, ◌∙◌}
 use Rattle.device.specs.Pieces.{is_unsettled}
 use Rattle.device.specs.Words.{Word, Fence, nvm_makes, fenced_word}
 use Rattle.nvm_words.specs.Meant.{meant, unsettled_lines, is_unsettled_line}

@@ -1,14 +1,8 @@
-use Rattle.std.proofs.Common.{◌≡◌, ℕ, ◌+◌, ◌*◌, ◌<◌, Bool, true, false, List, length, get_or, filter, sym, refl, ap, ◌∙◌, subst, arith}
-use Rattle.std.specs.Vec.{with_items}
+use Rattle.std.proofs.Common.{ℕ, false, length, get_or, refl, ap, ◌∙◌, arith}
 use Rattle.simulated.specs.Lists.{member}
-use Rattle.simulated.proofs.Lent.{lent_is}
 use Rattle.device.specs.Words.{fenced_word}
-use Rattle.nvm_words.specs.declared.mark.Mark.{Mark}
-use Rattle.nvm_words.specs.declared.mark.Mark.TheVariants.{Settled}
 use Rattle.nvm_words.specs.declared.mark.Change.TheVariants.{Fence}
-use Rattle.nvm_words.specs.Marks.{words_in, any_marked, Among, changed_mark}
-use Rattle.nvm_words.specs.Meant.{is_unsettled_line}
-use Rattle.nvm_words.proofs.Any.{any_same}
+use Rattle.nvm_words.specs.Marks.{words_in}
 use Rattle.nvm_words.proofs.Contents.{lent_lines, lent_notes}
 use Rattle.nvm_words.proofs.Listed.{all_changed, fenced_lines_lem, kept_same, lines_of_words}
 use Rattle.nvm_words.proofs.Owned.{listed_words, listed_below}

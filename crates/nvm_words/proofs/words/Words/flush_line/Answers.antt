@@ -1,8 +1,5 @@
-use Rattle.std.proofs.Common.{◌≡◌, ℕ, List, sym, refl, ap, ◌∙◌}
-use Rattle.simulated.proofs.Lent.{lent_is}
-use Rattle.nvm_words.specs.declared.mark.Mark.{Mark}
+use Rattle.std.proofs.Common.{sym, refl, ◌∙◌}
 use Rattle.nvm_words.specs.declared.mark.Change.TheVariants.{Flush}
-use Rattle.nvm_words.specs.Marks.{any_marked, words_in, Within}
 use Rattle.nvm_words.proofs.Contents.{within_words, flush_lines, lent_line}
 use Rattle.nvm_words.proofs.words.Words.flush_line.Goals as goal
 

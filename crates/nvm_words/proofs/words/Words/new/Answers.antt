@@ -1,4 +1,4 @@
-use Rattle.std.proofs.Common.{◌≡◌, ℕ, ◌*◌, ◌/◌, ◌≤◌, List, length, filter, sym, refl, ap, ◌∙◌, arith}
+use Rattle.std.proofs.Common.{◌≡◌, ◌/◌, List, length, filter, ap, ◌∙◌, arith}
 use Rattle.std.specs.List.{range_with_len}
 use Rattle.simulated.specs.declared.supply.Supply.{Supply}
 use Rattle.simulated.proofs.Laws.{same_state}
@@ -15,9 +15,16 @@ list_unsettled-requires c = (
 )
 
 pub invariant_of-result : goal.invariant_of-result
-invariant_of-result c = record { settled_long = omega (arith, c.min-units.ensures, c.min.ensures, c.len.ensures, c.truncate.ensures.len); present_long = omega (arith, c.min-units.ensures, c.min.ensures, c.len-2.ensures, c.truncate-2.ensures.len); marks_long = omega (arith, c.min-units.ensures, c.len-3.ensures, c.truncate-3.ensures.len); holds_long = c.in-Ok.ensures.len; covers = c.list_unsettled.ensures.size ∙ c.in_ok-pending.ensures.0; exact = made_exact c.truncate-3.new.self.items _ (length c.as_slice.result.now / 8)
-                (omega (arith, c.as_slice.ensures.len, c.truncate-3.new.self.ok.0, c.truncate-3.ensures.len, c.min-units.ensures, c.len-3.ensures))
-                (c.list_unsettled.ensures.lines ∙ ap (λ (ms : List Mark). filter (any_marked ms) (range_with_len 0 (length c.as_slice.result.now / 8))) c.as_slice.ensures.value) }
+invariant_of-result c = record {
+  settled_long = omega (arith, c.min-units.ensures, c.min.ensures, c.len.ensures, c.truncate.ensures.len);
+  present_long = omega (arith, c.min-units.ensures, c.min.ensures, c.len-2.ensures, c.truncate-2.ensures.len);
+  marks_long = omega (arith, c.min-units.ensures, c.len-3.ensures, c.truncate-3.ensures.len);
+  holds_long = c.in-Ok.ensures.len;
+  covers = c.list_unsettled.ensures.size ∙ c.in_ok-pending.ensures.0;
+  exact = made_exact c.truncate-3.new.self.items _ (length c.as_slice.result.now / 8)
+      (omega (arith, c.as_slice.ensures.len, c.truncate-3.new.self.ok.0, c.truncate-3.ensures.len, c.min-units.ensures, c.len-3.ensures))
+      (c.list_unsettled.ensures.lines ∙ ap (λ (ms : List Mark). filter (any_marked ms) (range_with_len 0 (length c.as_slice.result.now / 8))) c.as_slice.ensures.value);
+}
 
 pub returns : goal.returns
 returns c =

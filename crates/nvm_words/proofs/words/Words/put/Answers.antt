@@ -1,8 +1,6 @@
-use Rattle.std.proofs.Common.{◌≡◌, ℕ, ◌/◌, ◌<◌, ◌||◌, eqb, length, get_or, sym, refl, ap, ◌∙◌, arith}
+use Rattle.std.proofs.Common.{ℕ, ◌/◌, ◌<◌, ◌||◌, eqb, length, sym, refl, ap, ◌∙◌, arith}
 use Rattle.std.proofs.lemmas.List.{get_or_read}
 use Rattle.simulated.specs.Lists.{member}
-use Rattle.nvm_words.specs.declared.mark.Mark.TheVariants.{Settled}
-use Rattle.nvm_words.specs.declared.words.Words.{Words}
 use Rattle.nvm_words.proofs.Contents.{rests, stored_words, stored_lines}
 use Rattle.nvm_words.proofs.Listed.{member_with}
 use Rattle.nvm_words.proofs.words.Words.put.Goals as goal

@@ -1,13 +1,8 @@
-use Rattle.std.proofs.Common.{◌≡◌, ℕ, ◌+◌, ◌*◌, ◌/◌, ◌<◌, cond, List, length, get_or, sym, refl, ap, ◌∙◌, subst, arith}
-use Rattle.std.specs.Vec.{with_items}
+use Rattle.std.proofs.Common.{ℕ, length, refl, ap, ◌∙◌, arith}
 use Rattle.simulated.specs.Lists.{member}
 use Rattle.simulated.specs.declared.supply.Supply.{Supply}
-use Rattle.simulated.proofs.Lent.{lent_at}
 use Rattle.simulated.proofs.Laws.{same_state}
-use Rattle.nvm_words.specs.declared.mark.Mark.{Mark}
-use Rattle.nvm_words.specs.declared.mark.Mark.TheVariants.{Settled}
 use Rattle.nvm_words.specs.declared.mark.Change.TheVariants.{Settle}
-use Rattle.nvm_words.specs.Marks.{Among, changed_mark, values_back}
 use Rattle.nvm_words.proofs.Contents.{lent_lines, lent_values}
 use Rattle.nvm_words.proofs.Listed.{none_marked, back_words}
 use Rattle.nvm_words.proofs.Owned.{listed_words}

@@ -1,4 +1,4 @@
-use Rattle.std.proofs.Common.{◌≡◌, ℕ, ◌+◌, ◌*◌, ◌<◌, List, length, get_or, sym, refl, ap, ◌∙◌, subst, arith}
+use Rattle.std.proofs.Common.{◌≡◌, ℕ, ◌+◌, ◌*◌, ◌<◌, List, length, get_or, refl, ap, ◌∙◌, subst, arith}
 use Rattle.simulated.specs.Lists.{member}
 use Rattle.nvm_words.specs.declared.mark.Mark.TheVariants.{Settled}
 use Rattle.nvm_words.specs.declared.mark.Change.TheVariants.{Settle}

@@ -1,4 +1,4 @@
-use Rattle.std.proofs.Common.{◌≡◌, ℕ, ◌*◌, ◌/◌, min, Bool, false, ltb, List, length, replicate, Ok, Err, Result, sym, refl, ap, ◌∙◌, subst, arith, MatchResult}
+use Rattle.std.proofs.Common.{◌≡◌, ℕ, ◌*◌, ltb, List, replicate, Ok, Err, Result, refl, ◌∙◌, subst, arith, MatchResult}
 use lib.ListN.{length-replicate}
 use Rattle.std.specs.List.{range_with_len}
 use Rattle.refusal.specs.declared.reason.Refusal.{Refusal}

@@ -1,5 +1,5 @@
-use Rattle.std.proofs.Common.{◌≡◌, ℕ, ◌-◌, List, length, drop, sym, refl, ap, ◌∙◌, arith, length-drop}
-use Rattle.device.specs.Words.{Word, WordMark}
+use Rattle.std.proofs.Common.{ℕ, ◌-◌, List, length, drop, ap, ◌∙◌, arith, length-drop}
+use Rattle.device.specs.Words.{WordMark}
 use Rattle.simulated.specs.declared.supply.Supply.{Supply}
 use Rattle.simulated.specs.Natures.{Simulated}
 use Rattle.simulated.proofs.Laws.{same_state}

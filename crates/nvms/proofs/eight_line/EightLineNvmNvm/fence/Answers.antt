@@ -1,4 +1,4 @@
-use Rattle.std.proofs.Common.{◌≡◌, ℕ, ◌≤◌, List, length, is_ok, sym, refl, ◌∙◌, subst, inl}
+use Rattle.std.proofs.Common.{ℕ, ◌≤◌, List, length, is_ok, sym, refl, subst, inl}
 use Rattle.device.specs.Words.{Fence, nvm_rules, nvm_makes}
 use Rattle.simulated.proofs.Laws.{acted_by}
 use Rattle.nvm_words.specs.Meant.{meant, simulated_nvm, unsettled_lines, is_unsettled_line}

@@ -1,7 +1,7 @@
-use Rattle.std.proofs.Common.{◌≡◌, ℕ, ◌≤◌, List, length, is_ok, sym, refl, ◌∙◌, subst, inl}
+use Rattle.std.proofs.Common.{ℕ, ◌≤◌, List, length, is_ok, sym, refl, ◌∙◌, subst, inl}
 use Rattle.device.specs.Words.{Flush, nvm_rules, nvm_makes}
 use Rattle.simulated.proofs.Laws.{acted_by}
-use Rattle.nvm_words.specs.Meant.{meant, simulated_nvm, unsettled_lines, is_unsettled_line}
+use Rattle.nvm_words.specs.Meant.{simulated_nvm, unsettled_lines}
 use Rattle.nvms.proofs.Rooms.{same_either}
 use Rattle.nvms.proofs.eight_line.EightLineNvmNvm.flush.Goals as goal
 

@@ -1,6 +1,6 @@
-use Rattle.std.proofs.Common.{◌≡◌, ℕ, ◌/◌, ◌≤◌, cond, List, length, is_ok, Ok, Result, sym, refl, ap, ◌∙◌, subst}
+use Rattle.std.proofs.Common.{ℕ, ◌/◌, ◌≤◌, cond, List, length, is_ok, Ok, Result, sym, ap, ◌∙◌, subst}
 use Rattle.refusal.specs.declared.reason.Refusal.{Refusal}
-use Rattle.device.specs.Words.{Word, Store, nvm_rules, nvm_makes}
+use Rattle.device.specs.Words.{Store, nvm_rules, nvm_makes}
 use Rattle.simulated.specs.Listing.{with_line}
 use Rattle.simulated.proofs.Laws.{acted_by}
 use Rattle.nvm_words.specs.declared.words.Words.{Words}

@@ -1,4 +1,4 @@
-use Rattle.std.proofs.Common.{◌<◌, ◌&&◌, eqb, length, get_or, refl, arith}
+use Rattle.std.proofs.Common.{◌<◌, eqb, length, get_or, refl, arith}
 use Rattle.odd_nvm.specs.Buffered.{returned, empty}
 use Rattle.odd_nvm.proofs.acts.BufferedNvmNvm.restart.Goals as goal
 

@@ -1,4 +1,4 @@
-use Rattle.std.proofs.Common.{◌≡◌, ◌≤◌, vec_len, vec_capacity, refl, ap, ◌∙◌, arith}
+use Rattle.std.proofs.Common.{◌≤◌, vec_len, refl, ap, ◌∙◌, arith}
 use Rattle.ringlaws.specs.TxnInfo.{numbers_of, distinct}
 use Rattle.settings.proofs.kept.Settings.new.Goals as goal
 

@@ -1,4 +1,4 @@
-use Rattle.std.proofs.Common.{◌≡◌, ◌<◌, ◌≤◌, true, length, vec_items, vec_len, vec_capacity, sym, refl, ap, ◌∙◌, arith}
+use Rattle.std.proofs.Common.{◌<◌, ◌≤◌, length, vec_len, vec_capacity, sym, refl, ap, ◌∙◌, arith}
 use Rattle.ringlaws.specs.TxnInfo.{numbers_of, distinct}
 use Rattle.settings.specs.Puts.{list_of}
 use Rattle.settings.proofs.Positions.{found, missed, within, listed, put_there, put_last, put_apart, passes_again, passes_new, too_many}

@@ -1,4 +1,4 @@
-use Rattle.std.proofs.Common.{◌≡◌, Some, sym, ap, ◌∙◌, arith}
+use Rattle.std.proofs.Common.{Some, sym, ap, ◌∙◌, arith}
 use Rattle.settings.specs.Puts.{list_of}
 use Rattle.settings.proofs.Positions.{found, missed, within, set_there, unset}
 use Rattle.settings.proofs.kept.Settings.unit_of.Goals as goal

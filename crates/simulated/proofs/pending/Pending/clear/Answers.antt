@@ -19,6 +19,11 @@ pub invariant_of-self : goal.invariant_of-self
 unfolding member distinct
 invariant_of-self c =
     let p = c.args.self.now in
-    let e = c.clear.ensures in record { long = p.long; room = omega (arith, e.capacity, p.room); flagged = (λ b. lent_at false p.flags c.as_mut_slice.result.now c.unflag.new.flags c.as_mut_slice.ensures.value c.unflag.auto.flags b
-              ∙ gone (member b c.as_slice.result.now) (get_or c.as_mut_slice.result.now b false) _ (c.unflag.ensures b) (ap (λ (xs : List Bool). get_or xs b false) c.as_mut_slice.ensures.value ∙ p.flagged b ∙ sym (ap (member b) c.as_slice.ensures.value))
-              ∙ sym (ap (member b) e.items)); once = ap distinct e.items }
+    let e = c.clear.ensures in record {
+      long = p.long;
+      room = omega (arith, e.capacity, p.room);
+      flagged = (λ b. lent_at false p.flags c.as_mut_slice.result.now c.unflag.new.flags c.as_mut_slice.ensures.value c.unflag.auto.flags b
+          ∙ gone (member b c.as_slice.result.now) (get_or c.as_mut_slice.result.now b false) _ (c.unflag.ensures b) (ap (λ (xs : List Bool). get_or xs b false) c.as_mut_slice.ensures.value ∙ p.flagged b ∙ sym (ap (member b) c.as_slice.ensures.value))
+          ∙ sym (ap (member b) e.items));
+      once = ap distinct e.items;
+    }

@@ -37,11 +37,16 @@ invariant_of-self c =
     let p = c.args.self.now in
     let keep : ℕ → Bool = (λ b. get_or c.args.keep.now b false) in
     let e = c.truncate.ensures in
-    let lines = sifted p.queue c.as_mut_slice-2.result.now c.sift-count.new.queue c.truncate.new.self.items c.sift-count.result keep c.as_mut_slice-2.ensures.value c.sift-count.auto.queue c.sift-count.ensures e.items in record { long = p.long; room = omega (arith, e.capacity, p.room); flagged = (λ b. lent_at false p.flags c.as_mut_slice.result.now c.reflag.new.flags c.as_mut_slice.ensures.value c.reflag.auto.flags b
-              ∙ flag_kept (member b c.as_slice.result.now) (keep b) (get_or c.as_mut_slice.result.now b false) _ (c.reflag.ensures b) (ap (λ (xs : List Bool). get_or xs b false) c.as_mut_slice.ensures.value ∙ p.flagged b ∙ sym (ap (member b) c.as_slice.ensures.value))
-              ∙ ap (λ (xs : List ℕ). cond (member b xs) (keep b) false) c.as_slice.ensures.value
-              ∙ sym (member_kept keep b p.queue.items)
-              ∙ sym (ap (member b) lines)); once = ap distinct lines ∙ distinct_kept keep p.queue.items p.once }
+    let lines = sifted p.queue c.as_mut_slice-2.result.now c.sift-count.new.queue c.truncate.new.self.items c.sift-count.result keep c.as_mut_slice-2.ensures.value c.sift-count.auto.queue c.sift-count.ensures e.items in record {
+      long = p.long;
+      room = omega (arith, e.capacity, p.room);
+      flagged = (λ b. lent_at false p.flags c.as_mut_slice.result.now c.reflag.new.flags c.as_mut_slice.ensures.value c.reflag.auto.flags b
+          ∙ flag_kept (member b c.as_slice.result.now) (keep b) (get_or c.as_mut_slice.result.now b false) _ (c.reflag.ensures b) (ap (λ (xs : List Bool). get_or xs b false) c.as_mut_slice.ensures.value ∙ p.flagged b ∙ sym (ap (member b) c.as_slice.ensures.value))
+          ∙ ap (λ (xs : List ℕ). cond (member b xs) (keep b) false) c.as_slice.ensures.value
+          ∙ sym (member_kept keep b p.queue.items)
+          ∙ sym (ap (member b) lines));
+      once = ap distinct lines ∙ distinct_kept keep p.queue.items p.once;
+    }
 
 pub returns : goal.returns
 returns c = record {

@@ -1,4 +1,4 @@
-use Rattle.std.proofs.Common.{◌≡◌, ℕ, List, get_or, sym, ap, ◌∙◌}
+use Rattle.std.proofs.Common.{ℕ, List, get_or, sym, ap, ◌∙◌}
 use Rattle.tile.specs.Laws.{reads_none, made_reads}
 use Rattle.tile.proofs.kind.TileKindRecordKind.decode.Goals as goal
 
