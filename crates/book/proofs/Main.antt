@@ -1,11 +1,16 @@
 -- Every run, from an accepted format on, keeps the book.
-use Rattle.std.proofs.Common.{◌≡◌, ℕ, zero, suc, ◌+◌, ◌<◌, ◌≤◌, Bool, true, false, cond, not, ◌&&◌, ◌||◌, ltb, leb, ◌⊎◌, List, [], ◌∷◌, ◌++◌, sym, refl, ap, ◌∙◌, subst, inl, inr, arith}
+use Rattle.std.proofs.Common.{◌≡◌, ℕ, zero, suc, ◌+◌, ◌-◌, ◌<◌, ◌≤◌, Bool, true, false, cond, not, ◌&&◌, ◌||◌, ltb, leb, ◌⊎◌, List, [], ◌∷◌, ◌++◌, Some, None, Option, sym, refl, ap, ◌∙◌, subst, inl, inr, arith}
 use Rattle.std.specs.Str.{bytes_eq}
-use Rattle.std.proofs.lemmas.Bool.{cond-true, cond-false, both_ways, cases_eq, and_parts, and_from, and_left, and_right, ltb-true, leb-true}
+use Rattle.std.proofs.lemmas.Bool.{cond-true, cond-false, both_ways, cases_Bool, cases_eq, and_parts, and_from, and_left, and_right, ltb-true, leb-true}
 use Rattle.std.proofs.lemmas.Slice.Eq.{bytes_eq-Decides}
-use Rattle.refusal.specs.declared.reason.Refusal.TheVariants.{Dark, NoSuchRecord, ForeignUnit, BadSize}
-use Rattle.device.specs.Sectors.{sectors_of}
-use Rattle.crash.specs.Pair.{Pair, is_dark, PairRestarted, PerformedPair}
+use Rattle.refusal.specs.declared.reason.Refusal.{Refusal}
+use Rattle.refusal.specs.declared.reason.Refusal.TheVariants.{Dark, NotMounted, NoSuchRecord, ForeignUnit, Mounted, BadSize}
+use Rattle.refusal.specs.Numbers.{number_of}
+use Rattle.device.specs.Devices.{Restarted}
+use Rattle.device.specs.Words.{nvm_rules, words_of}
+use Rattle.device.specs.Sectors.{disk_rules, sectors_of}
+use Rattle.crash.specs.Acts.{Rests, contents}
+use Rattle.crash.specs.Pair.{Pair, is_dark, PairRestarted, PairRests, PerformedPair}
 use Rattle.crash.proofs.Steps.{back_settled}
 use Rattle.ringlaws.specs.Layout.{records_of, least_places, most_places, most_blocks}
 use Rattle.ringlaws.specs.TxnInfo.{Transaction}
@@ -13,15 +18,15 @@ use Rattle.ringlaws.specs.Newest.{lay, laid}
 use Rattle.calls.specs.declared.state.State.{State}
 use Rattle.calls.specs.declared.state.State.TheVariants.{Unmounted, Idle, Open}
 use Rattle.calls.specs.declared.call.Call.{Call}
-use Rattle.calls.specs.declared.call.Call.TheVariants.{Format, Mount, Read}
+use Rattle.calls.specs.declared.call.Call.TheVariants.{Format, Mount, Begin, Set, Clear, Read, Commit, Abandon, Checkpoint, Close}
 use Rattle.calls.specs.declared.answer.Answer.{Answer}
 use Rattle.calls.specs.declared.answer.Answer.TheVariants.{Refused, Done, Blocks}
 use Rattle.calls.specs.Table.{table, zero_unit}
 use Rattle.calls.specs.Acts.{format_acts}
 use Rattle.calls.specs.Judge.{judge}
-use Rattle.calls.specs.Plans.{Machine, Kind, places_of, blocks_of, table_of, read_unit, fit_sizes, refusing, plan_of}
+use Rattle.calls.specs.Plans.{Machine, Kind, Plan, places_of, blocks_of, table_of, read_unit, fit_sizes, refusing, plan_of}
 use Rattle.calls.specs.Steps.{Step, was_dark, went, went_dark, Went, MachineRestarted}
-use Rattle.calllaws.specs.Holds.{Keeps}
+use Rattle.calllaws.specs.Holds.{Ready, Holds, Keeps}
 use Rattle.calllaws.specs.FormatLaw.{AnyContents}
 use Rattle.calllaws.proofs.Commits.{commits_are_atomic}
 use Rattle.calllaws.proofs.Checkpoints.{checkpoints_keep_the_table}
@@ -30,14 +35,15 @@ use Rattle.calllaws.proofs.Formats.{formats_make_an_empty_store}
 use Rattle.order.specs.Order.{EndsThere}
 use Rattle.book.specs.Book.{Book, blank, next, restarted, is_commit, book_read, read_in}
 use Rattle.book.specs.Runs.{Event, called, restart, Run, start, asked, returned, is_format, is_kept, same_below}
-use Rattle.book.specs.Commits.{cutOff, commits_after, Tally, no_tally, tally_call, tally_event, tally_from, tally, none, WholeAndInOrder}
+use Rattle.book.specs.Commits.{Fate, cutOff, commits_after, Tally, no_tally, tally_call, tally_event, tally_from, tally, Kept, none, WholeAndInOrder}
 use Rattle.book.specs.Promise.{Lawful, ByState, Right, Promised, EveryRunKeepsTheBook}
 use Rattle.order.proofs.Own.{own, blocks_is, ring_is}
 use Rattle.order.proofs.Performed.{stays_lit}
-use Rattle.book.proofs.Goods.{Readable, EachReadable, good_none, lay_readable, never_foreign}
-use Rattle.book.proofs.Follows.{live, tallied, Follows, lives, gone, Owes}
+use Rattle.book.proofs.Goods.{Readable, EachReadable, Good, good_none, lay_readable, never_foreign}
+use Rattle.book.proofs.Follows.{live, tallied, Live, Gone, Follows, lives, gone, Owes}
 use Rattle.book.proofs.Went.{follow, went_step}
 use Rattle.book.proofs.WentDark.{died}
+use Rattle.book.proofs.Formats.{format_right}
 
 -- two tables that are the same below n
 same_sound : (n : ℕ) (x y : ℕ → List ℕ) → same_below n x y ≡ true → (r : ℕ) → r < n → x r ≡ y r
@@ -127,6 +133,20 @@ module _ {R : Type 0} (kind : Kind R) (lawful : Lawful kind) (N B : ℕ) where
   step m n b t call a f (gone v) (went w) = absurd (both_ways (is_dark m.devices) w.before v.out)
   step m n b t call a f (gone v) (went_dark w) = absurd (both_ways (is_dark m.devices) w.before v.out)
 
+  -- every call, a format too, is answered right
+  right : (m n : Machine) (b : Book) (t : Tally) (call : Call R) (a : Answer R) → Follows kind N B m b t → Step kind m call a n
+      → Right kind (places_of m) (blocks_of m) b t.lying call a
+  right m n b t Format a f s = format_right kind lawful N B m n b t a f s
+  right m n b t Mount a f s = (step m n b t Mount a refl f s).0
+  right m n b t Begin a f s = (step m n b t Begin a refl f s).0
+  right m n b t (Set r x) a f s = (step m n b t (Set r x) a refl f s).0
+  right m n b t (Clear r) a f s = (step m n b t (Clear r) a refl f s).0
+  right m n b t (Read r) a f s = (step m n b t (Read r) a refl f s).0
+  right m n b t Commit a f s = (step m n b t Commit a refl f s).0
+  right m n b t Abandon a f s = (step m n b t Abandon a refl f s).0
+  right m n b t Checkpoint a f s = (step m n b t Checkpoint a refl f s).0
+  right m n b t Close a f s = (step m n b t Close a refl f s).0
+
   -- the table of devices that keep these units
   table_is : (n : Machine) (ts : List Transaction) (units : ℕ → List ℕ) → Keeps N B n.devices ts units → (r : ℕ) → r < records_of (blocks_of n) → table_of n r ≡ units r
   table_is n ts units k r lt =
@@ -215,7 +235,7 @@ module _ {R : Type 0} (kind : Kind R) (lawful : Lawful kind) (N B : ℕ) where
   tally_more t [] e = refl
   tally_more t (x ∷ es) e = tally_more (tally_event kind t x) es e
 
-  follows : (m₁ m : Machine) (b : Book) (es : List (Event R)) → Follows kind N B m₁ blank no_tally → Run kind m₁ blank es m b → Follows kind N B m b (tally kind es)
+  pub follows : (m₁ m : Machine) (b : Book) (es : List (Event R)) → Follows kind N B m₁ blank no_tally → Run kind m₁ blank es m b → Follows kind N B m b (tally kind es)
   unfolding tally_from
   follows m₁ m b es v start = v
   follows m₁ m b es v (asked {events} {m = x} {b = y} {call} {a} run f s) =
@@ -263,6 +283,7 @@ module _ {R : Type 0} (kind : Kind R) (lawful : Lawful kind) (N B : ℕ) where
   promised : (es : List (Event R)) (m : Machine) (b : Book) → Follows kind N B m b (tally kind es) → Promised kind es m b
   promised es m b (lives v) = record {
     answers = λ call a n f s. (step m n b (tally kind es) call a f (lives v) s).0;
+    formats = λ a n s. right m n b (tally kind es) Format a (lives v) s;
     reads = λ r a n s. right_read (places_of m) (blocks_of m) b (tally kind es).lying r a (step m n b (tally kind es) (Read r) a refl (lives v) s).0;
     mounts = λ e a n s.
         right_mount (places_of m) (blocks_of m) b (tally kind es).lying a (λ _. ap (λ (x : Book). x.state) v.book ∙ e) (step m n b (tally kind es) Mount a refl (lives v) s).0;
@@ -275,6 +296,7 @@ module _ {R : Type 0} (kind : Kind R) (lawful : Lawful kind) (N B : ℕ) where
   }
   promised es m b (gone v) = record {
     answers = λ call a n f s. (step m n b (tally kind es) call a f (gone v) s).0;
+    formats = λ a n s. right m n b (tally kind es) Format a (gone v) s;
     reads = λ r a n s. right_read (places_of m) (blocks_of m) b (tally kind es).lying r a (step m n b (tally kind es) (Read r) a refl (gone v) s).0;
     mounts = λ e a n s.
         right_mount (places_of m) (blocks_of m) b (tally kind es).lying a (λ d. absurd (both_ways b.dark d v.book)) (step m n b (tally kind es) Mount a refl (gone v) s).0;
@@ -330,7 +352,7 @@ module _ {R : Type 0} (kind : Kind R) (lawful : Lawful kind) (m₀ m₁ : Machin
   by_state Idle e w = let f = w.says in let z : ◌≡◌ {A = ℕ} 0 1 = cc in absurd (omega arith)
   by_state Open e w = let f = w.says in let z : ◌≡◌ {A = ℕ} 0 1 = cc in absurd (omega arith)
 
-  begins : Step kind m₀ Format Done m₁ → Follows kind N B m₁ blank no_tally
+  pub begins : Step kind m₀ Format Done m₁ → Follows kind N B m₁ blank no_tally
   begins (was_dark w) = let f = w.says in let z : ◌≡◌ {A = ℕ} 0 1 = cc in absurd (omega arith)
   begins (went w) = by_state m₀.state refl w
   begins (went_dark w) = let f = w.says in let z : ◌≡◌ {A = ℕ} 0 1 = cc in absurd (omega arith)

@@ -1,15 +1,18 @@
 -- A call that goes by its plan: its answer is right by the book, and the book follows.
-use Rattle.std.proofs.Common.{◌≡◌, ℕ, ◌+◌, ◌-◌, ◌<◌, ◌≤◌, Bool, true, false, cond, not, ◌&&◌, eqb, ltb, leb, List, [], ◌∷◌, ◌++◌, length, Some, None, Option, unwrap_or, sym, refl, ap, ◌∙◌, subst, inl, inr, arith, length-append}
-use Rattle.std.proofs.lemmas.Bool.{cond-true, cond-false, eq-eqb, lt-ltb, le-leb, ltb-true, both_ways, and_from}
+use Rattle.std.proofs.Common.{◌≡◌, ℕ, zero, suc, ◌+◌, ◌-◌, ◌<◌, ◌≤◌, Bool, true, false, cond, not, ◌&&◌, ◌||◌, eqb, ltb, leb, ◌⊎◌, List, [], ◌∷◌, ◌++◌, length, Some, None, Option, unwrap_or, sym, refl, ap, ◌∙◌, subst, inl, inr, arith, length-append}
+use Rattle.std.proofs.lemmas.Bool.{cond-true, cond-false, cases_Bool, eq-eqb, lt-ltb, le-leb, le-ltb, ltb-true, both_ways, and_from, and_parts}
 use Rattle.refusal.specs.declared.reason.Refusal.{Refusal}
-use Rattle.refusal.specs.declared.reason.Refusal.TheVariants.{NoSuchRecord, TooManyRecords, RingFull, Mounted, NotMounted, AlreadyOpen, NotOpen, BadSize, BadHeader, NoGroundMark}
+use Rattle.refusal.specs.declared.reason.Refusal.TheVariants.{Dark, NoSuchRecord, TooManyRecords, RingFull, Mounted, NotMounted, AlreadyOpen, NotOpen, BadSize, BadHeader, NoGroundMark}
 use Rattle.refusal.specs.Numbers.{number_of}
+use Rattle.device.specs.Words.{nvm_rules}
+use Rattle.device.specs.Sectors.{disk_rules}
 use Rattle.crash.specs.Pair.{Pair, Act, is_dark, PerformedPair, settling_both}
+use Rattle.ringlaws.specs.declared.setting.Setting.{Setting}
 use Rattle.ringlaws.specs.Layout.{records_of, head_of, tail_of, used, ground_word, ground_mark, places_word, blocks_word, least_places, most_places, most_blocks}
-use Rattle.ringlaws.specs.TxnInfo.{Transaction, taken, all_zero}
+use Rattle.ringlaws.specs.TxnInfo.{Transaction, taken, info_length, all_zero}
 use Rattle.ringlaws.specs.Spells.{Spells, Fair, AllFair, units_of, written}
-use Rattle.ringlaws.specs.Sound.{step_back}
-use Rattle.ringlaws.specs.Newest.{setting_of, lay}
+use Rattle.ringlaws.specs.Sound.{spelled, bad_at, step_back}
+use Rattle.ringlaws.specs.Newest.{setting_of, lay, laid}
 use Rattle.ringlaws.proofs.Back.{sound_exactly_if_spelled, every_word_comes_back}
 use Rattle.ringlaws.proofs.Units.{units_of_long}
 use Rattle.calls.specs.declared.state.State.{State}
@@ -17,23 +20,24 @@ use Rattle.calls.specs.declared.state.State.TheVariants.{Unmounted, Idle, Open}
 use Rattle.calls.specs.declared.call.Call.{Call}
 use Rattle.calls.specs.declared.call.Call.TheVariants.{Format, Mount, Begin, Set, Clear, Read, Commit, Abandon, Checkpoint, Close}
 use Rattle.calls.specs.declared.answer.Answer.{Answer}
-use Rattle.calls.specs.declared.answer.Answer.TheVariants.{Refused, Done, Used, Blocks, Absent}
-use Rattle.calls.specs.Table.{ring_of, table, zero_unit}
+use Rattle.calls.specs.declared.answer.Answer.TheVariants.{Refused, Done, Used, Blocks, Absent, Found}
+use Rattle.calls.specs.Table.{ring_of, transactions_of, table, zero_unit}
 use Rattle.calls.specs.Acts.{commit_acts, checkpoint_acts, named_blocks}
-use Rattle.calls.specs.Plans.{Machine, Kind, Plan, table_of, refusing, fit_sizes, fit_header, damage, mount_refusal, put, may_put, set_refusal, is_full, added, read_by, read_unit, mount_by, mount_plan, set_by, set_plan, read_plan, commit_plan, checkpoint_plan, plan_of}
+use Rattle.calls.specs.Judge.{judge}
+use Rattle.calls.specs.Plans.{Machine, Kind, Plan, places_of, blocks_of, words, sectors, ring, table_of, refusing, fit_sizes, fit_header, damage, mount_refusal, put, may_put, set_refusal, is_full, added, read_by, read_unit, mount_by, mount_plan, set_by, set_plan, read_plan, commit_plan, checkpoint_plan, admitted, plan_by, plan_of}
 use Rattle.calls.specs.Steps.{Went}
-use Rattle.calllaws.specs.Holds.{Keeps}
+use Rattle.calllaws.specs.Holds.{Ready, Holds, Keeps}
 use Rattle.calllaws.specs.CommitLaw.{CommitsAreAtomic}
 use Rattle.calllaws.specs.CheckpointLaw.{CheckpointsKeepTheTable, MountsKeepTheTable, KeepsTheTable}
-use Rattle.book.specs.Book.{Book, next}
+use Rattle.book.specs.Book.{Book, next, accepted, refused, book_read, read_in}
 use Rattle.book.specs.Runs.{is_format}
-use Rattle.book.specs.Commits.{Fate, done as whole, Tally, tally_call, places_taken, and_nonempty, WholeAndInOrder}
-use Rattle.book.specs.Promise.{Lawful, Right, done_unless, no_room}
+use Rattle.book.specs.Commits.{Fate, done as whole, cutOff, Tally, tally_call, places_taken, and_nonempty, WholeAndInOrder, settings_after, lying_after, commits_after}
+use Rattle.book.specs.Promise.{Lawful, Right, ByState, Expected, done_unless, no_room}
 use Rattle.order.proofs.Own.{Own, own, own_places, own_blocks, own_words, own_sectors, places_is, blocks_is, ring_is}
 use Rattle.order.proofs.Performed.{performed_none, stays_lit}
 use Rattle.order.proofs.Settings.{set_passes}
-use Rattle.book.proofs.Goods.{Readable, Good, good_none, put_good, good_fair, lay_readable}
-use Rattle.book.proofs.Follows.{live, tallied, Follows, lives, Owes, commit_takes}
+use Rattle.book.proofs.Goods.{Readable, EachReadable, Good, good_none, put_good, good_fair, lay_readable}
+use Rattle.book.proofs.Follows.{live, tallied, Live, Follows, lives, Owes, commit_takes}
 
 -- the places that fair transactions take are the units that they are written as
 taken_written : (B : ℕ) (ts : List Transaction) → AllFair B ts → places_taken ts ≡ length (written ts)
@@ -216,7 +220,7 @@ module _ {R : Type 0} (kind : Kind R) (lawful : Lawful kind) (N B : ℕ) where
           (subst (λ (x : List Transaction). Went (record { acts = checkpoint_acts (own_blocks d) (own_words d) x (own_sectors d); answer = a₀; state = s'; list = l }) (machine d s l) a n) (ring_is d ts units o) w)
           right book tally
 
-      fits : fit_sizes d.nvm.size (own_blocks d) ≡ true
+      pub fits : fit_sizes d.nvm.size (own_blocks d) ≡ true
       fits =
           let g = o.ready in
           let least : least_places < d.nvm.size = omega arith in

@@ -78,6 +78,8 @@ pub record Promised {R : Type 0} (kind : Kind R) (es : List (Event R)) (m : Mach
   -- every next call, whatever it is and however power fails, is answered right by the book
   pub answers : (call : Call R) (a : Answer R) (n : Machine) → is_format call ≡ false → Step kind m call a n
       → Right kind (places_of m) (blocks_of m) b (tally kind es).lying call a
+  -- and so is a further format
+  pub formats : (a : Answer R) (n : Machine) → Step kind m Format a n → Right kind (places_of m) (blocks_of m) b (tally kind es).lying Format a
   -- every read answers exactly as the book does
   pub reads : (r : ℕ) (a : Answer R) (n : Machine) → Step kind m (Read r) a n → a ≡ book_read kind (blocks_of m) b r
   -- no read of the book meets a unit that is not of the kind

@@ -7,7 +7,7 @@ use Rattle.crash.specs.Pair.{both}
 use Rattle.ringlaws.specs.TxnInfo.{Transaction}
 use Rattle.calls.specs.declared.state.State.{State}
 use Rattle.calls.specs.declared.answer.Answer.{Answer}
-use Rattle.calls.specs.declared.answer.Answer.TheVariants.{Refused, Done, Blocks}
+use Rattle.calls.specs.declared.answer.Answer.TheVariants.{Refused, Done, Used, Blocks}
 use Rattle.calls.specs.Plans.{Machine}
 
 -- a store by what its devices mean, its state and the settings of its open transaction
@@ -28,3 +28,8 @@ blocks_answer (Err e) = Refused e
 abbrev pub if_done : {V A : Type 0} → Result V Refusal → A → A → A
 if_done (Ok value) x y = x
 if_done (Err e) x y = y
+
+-- the answer of a commit, which says the places used then
+abbrev pub used_answer : {R : Type 0} → Result ℕ Refusal → Answer R
+used_answer (Ok places) = Used places
+used_answer (Err e) = Refused e

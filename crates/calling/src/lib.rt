@@ -6,4 +6,4 @@ pub mod contents;
 pub mod ends;
 pub mod format;
 pub mod read;
-mod sizes;
+pub mod sizes;

@@ -1,5 +1,6 @@
 //! A disk, as all code above it sees it.
 ghost use Rattle.std.specs.Prelude.{◌≡◌, ℕ, ◌*◌, ◌^◌, ◌<◌, ◌≤◌, false};
+ghost use Rattle.device.specs.declared.comeback.Comeback.{Comeback};
 ghost use Rattle.device.specs.Pieces.{is_unsettled};
 ghost use Rattle.device.specs.Devices.{Acted, Restarted};
 ghost use Rattle.device.specs.Sectors.{DiskMeaning, Write, Sync, disk_rules, Reads};
@@ -11,6 +12,9 @@ use refusal::reason::Refusal;
 pub trait Disk {
     // What this disk means: its size, whether it is dark, and each of its sectors.
     ghost meaning: { Self → DiskMeaning };
+
+    // What this disk promises besides of a restart with these arguments: a simulated one that it comes back as asked, a real one nothing.
+    ghost comes: { Self → Comeback → ℕ → Self → Type 0 } = { λ _ _ _ _. Unit {0} };
 
     /// The size in blocks. It never changes.
     fn blocks(&self) -> usize
@@ -35,7 +39,8 @@ pub trait Disk {
     /// Power returns. A simulated disk takes from `how` what its waiting sectors come back as, and goes dark at the first act
     /// after `acts` performed ones; a real one looks at neither.
     fn restart(&mut self, how: &Comeback, acts: u64)
-        ensures { Restarted (meaning self.old) (meaning self.new) };
+        ensures restarted { Restarted (meaning self.old) (meaning self.new) }
+        ensures asked { comes self.old how.now acts self.new };
 
     // The number of a word fits a `usize`.
     ghost fits: { (s : Self) → 512 * (meaning s).size < 2 ^ 64 };

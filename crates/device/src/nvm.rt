@@ -1,5 +1,6 @@
 //! A non-volatile memory, as all code above it sees it.
 ghost use Rattle.std.specs.Prelude.{◌≡◌, ℕ, ◌*◌, ◌^◌, ◌<◌, ◌≤◌, false};
+ghost use Rattle.device.specs.declared.comeback.Comeback.{Comeback};
 ghost use Rattle.device.specs.Pieces.{is_unsettled};
 ghost use Rattle.device.specs.Devices.{Acted, Restarted};
 ghost use Rattle.device.specs.Words.{NvmMeaning, Store, Flush, Fence, nvm_rules, loads};
@@ -11,6 +12,9 @@ use refusal::reason::Refusal;
 pub trait Nvm {
     // What this memory means: its size, whether it is dark, and each of its words.
     ghost meaning: { Self → NvmMeaning };
+
+    // What this memory promises besides of a restart with these arguments: a simulated one that it comes back as asked, a real one nothing.
+    ghost comes: { Self → Comeback → ℕ → Self → Type 0 } = { λ _ _ _ _. Unit {0} };
 
     /// The size in units. It never changes.
     fn units(&self) -> usize
@@ -39,7 +43,8 @@ pub trait Nvm {
     /// Power returns. A simulated memory takes from `how` what its unsettled words come back as, and goes dark at the first act
     /// after `acts` performed ones; a real one looks at neither.
     fn restart(&mut self, how: &Comeback, acts: u64)
-        ensures { Restarted (meaning self.old) (meaning self.new) };
+        ensures restarted { Restarted (meaning self.old) (meaning self.new) }
+        ensures asked { comes self.old how.now acts self.new };
 
     // The number of a word fits a `usize`.
     ghost fits: { (s : Self) → 32 * (meaning s).size < 2 ^ 64 };

@@ -56,6 +56,8 @@ impl PromptDisk {
 impl Disk for PromptDisk {
     ghost meaning = { λ d. (disk_state d.contents).meaning };
 
+    ghost comes = { λ s how acts t. disk_state t.contents ≡ returned how acts (disk_state s.contents) };
+
     ghost fits = { Prim.search rules };
 
     ghost ends = { λ d i far. waits_of _ _ _ ∙ get_or_past d.contents.waiting.items i false (omega (arith, d.contents.waiting.ok.0, d.contents.eights)) };
@@ -90,6 +92,7 @@ impl Disk for PromptDisk {
 
     fn restart(&mut self, how: &Comeback, acts: u64)
         ensures restarted { Restarted (disk_state self.old.contents).meaning (disk_state self.new.contents).meaning }
+        ensures asked { disk_state self.new.contents ≡ returned how.now acts (disk_state self.old.contents) }
         ensures comeback { disk_state self.new.contents ≡ returned how.now acts (disk_state self.old.contents) }
     {
         self.contents.restart(how, acts);

@@ -83,6 +83,8 @@ impl EightLineNvm {
 impl Nvm for EightLineNvm {
     ghost meaning = { eight_line_meaning };
 
+    ghost comes = { λ s how acts t. eight_line_state t ≡ returned how acts (eight_line_state s) };
+
     ghost fits = { first_of (Prim.search rules, Prim.grind (arith, Self.row.coded.inj)) };
 
     ghost ends = { λ n w far. beyond_rests n.words w far };
@@ -131,6 +133,7 @@ impl Nvm for EightLineNvm {
 
     fn restart(&mut self, how: &Comeback, acts: u64)
         ensures restarted { Restarted (eight_line_meaning self.old) (eight_line_meaning self.new) }
+        ensures asked { eight_line_state self.new ≡ returned how.now acts (eight_line_state self.old) }
         ensures nature { eight_line_state self.new ≡ returned how.now acts (eight_line_state self.old) }
         ensures lines { lines_by_age self.new ≡ [] }
     {

@@ -68,6 +68,8 @@ impl PatientNvm {
 impl Nvm for PatientNvm {
     ghost meaning = { patient_meaning };
 
+    ghost comes = { λ s how acts t. patient_state t ≡ returned how acts (patient_state s) };
+
     ghost fits = { Prim.search rules };
 
     ghost ends = { λ n w far. beyond_rests n.words w far };
@@ -112,6 +114,7 @@ impl Nvm for PatientNvm {
 
     fn restart(&mut self, how: &Comeback, acts: u64)
         ensures restarted { Restarted (patient_meaning self.old) (patient_meaning self.new) }
+        ensures asked { patient_state self.new ≡ returned how.now acts (patient_state self.old) }
         ensures nature { patient_state self.new ≡ returned how.now acts (patient_state self.old) }
     {
         self.words.restart(how, acts);

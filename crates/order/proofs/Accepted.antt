@@ -29,7 +29,7 @@ none_refused = record { nvm = tt; disk = tt }
 
 module _ {R : Type 0} (kind : Kind R) (m : Machine) where
   -- the acts of this plan are accepted
-  abbrev Fine : Plan R → Type 0
+  abbrev pub Fine : Plan R → Type 0
   Fine plan = PairAccepts m.devices plan.acts
 
   -- set, clear and read have no acts
@@ -50,7 +50,7 @@ module _ {R : Type 0} (kind : Kind R) (m : Machine) where
         cond_both (fit_sizes m.devices.nvm.size (blocks_of m)) _ (refusing m BadSize) Fine
         (λ h. (formats_make_an_empty_store (places_of m) (blocks_of m) m.devices (any_contents m ends h)).0) (λ h. none_refused)
 
-    mount_fine : Fine (mount_plan kind m)
+    pub mount_fine : Fine (mount_plan kind m)
     mount_fine =
         cond_both (fit_sizes m.devices.nvm.size (blocks_of m)) _ (refusing m BadSize) Fine (go (mount_refusal (places_of m) (blocks_of m) (words m))) (λ h. none_refused)
       where

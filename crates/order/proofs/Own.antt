@@ -14,10 +14,10 @@ use Rattle.calls.specs.Table.{ring_of, transactions_of, table}
 use Rattle.calllaws.specs.Holds.{Ready, Holds, Keeps}
 
 -- settled contents are the present ones
-present_words : (c : Contents) (m : NvmMeaning) → Rests c m → words_of m ≡ c
+pub present_words : (c : Contents) (m : NvmMeaning) → Rests c m → words_of m ≡ c
 present_words c m h = λ i w. ap present_value (h w) i
 
-present_sectors : (e : ℕ → List ℕ) (m : DiskMeaning) → Rests e m → sectors_of m ≡ e
+pub present_sectors : (e : ℕ → List ℕ) (m : DiskMeaning) → Rests e m → sectors_of m ≡ e
 present_sectors e m h = λ i s. ap present_value (h s) i
 
 -- a pair's own numbers and contents

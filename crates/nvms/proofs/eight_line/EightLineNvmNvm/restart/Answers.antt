@@ -5,4 +5,4 @@ use Rattle.nvms.proofs.eight_line.EightLineNvmNvm.restart.Goals as goal
 pub returns : goal.returns
 returns c =
     let e = c.restart.ensures in
-    record { restarted = restarted_by c.args.how.now c.args.acts (simulated_nvm c.args.self.now.words) (simulated_nvm c.restart.new.self) e.state; nature = e.state; lines = e.lines }
+    record { restarted = restarted_by c.args.how.now c.args.acts (simulated_nvm c.args.self.now.words) (simulated_nvm c.restart.new.self) e.state; asked = e.state; nature = e.state; lines = e.lines }
