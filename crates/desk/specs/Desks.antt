@@ -1,7 +1,7 @@
 -- What a desk holds. Assumes nothing.
 use Rattle.std.specs.Prelude.{ℕ, List, replicate, vec_items, slice_index, slice_set}
 use Rattle.ringlaws.specs.TxnInfo.{Transaction}
-use Rattle.desk.specs.declared.ring.RingDesk.{RingDesk}
+use Rattle.desk.specs.declared.ring_desk.RingDesk.{RingDesk}
 
 -- the words of the ring's memory, and the settings that wait to be committed
 abbrev pub image_of : RingDesk → List ℕ

@@ -2,7 +2,7 @@
 ghost use Rattle.std.specs.Prelude.{◌≡◌, ◌<◌, length, IfSome};
 ghost use Rattle.desk.specs.Desks.{image_of};
 
-use crate::ring::RingDesk;
+use crate::ring_desk::RingDesk;
 use crate::rings::BLOCKS;
 use refusal::reason::Refusal;
 use ringlaws::setting::Setting;

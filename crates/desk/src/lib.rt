@@ -4,6 +4,6 @@
 
 pub mod hold;
 pub mod places;
-pub mod ring;
+pub mod ring_desk;
 pub mod rings;
 pub mod verbs;

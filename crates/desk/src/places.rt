@@ -1,5 +1,5 @@
 //! The ring place by place.
-use crate::ring::RingDesk;
+use crate::ring_desk::RingDesk;
 use crate::rings::{BLOCKS, PLACES};
 use ring::source::Words;
 use ring::unit::load_unit;

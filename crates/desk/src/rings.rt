@@ -6,7 +6,7 @@ ghost use Rattle.ring.specs.Sources.{word_of};
 ghost use Rattle.ring.specs.Walks.{Finds, Lists};
 ghost use Rattle.desk.specs.Desks.{image_of, waiting_of, empty_image, head_in, tail_in};
 
-use crate::ring::RingDesk;
+use crate::ring_desk::RingDesk;
 use refusal::reason::Refusal;
 use ring::source::Words;
 use ring::{find, list};

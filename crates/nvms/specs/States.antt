@@ -5,8 +5,8 @@ use Rattle.simulated.specs.Natures.{Simulated}
 use Rattle.nvm_words.specs.declared.mark.Mark.{Mark}
 use Rattle.nvm_words.specs.Meant.{simulated_nvm, unsettled_lines}
 use Rattle.nvm_words.specs.Made.{units_in, made_word, made_lines}
-use Rattle.nvms.specs.declared.device.PatientNvm.{PatientNvm}
-use Rattle.nvms.specs.declared.device.EightLineNvm.{EightLineNvm}
+use Rattle.nvms.specs.declared.devices.PatientNvm.{PatientNvm}
+use Rattle.nvms.specs.declared.devices.EightLineNvm.{EightLineNvm}
 use Rattle.nvms.specs.Natures.{surplus_settled}
 
 abbrev pub patient_state : PatientNvm → Simulated WordMark ℕ

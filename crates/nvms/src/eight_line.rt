@@ -14,7 +14,7 @@ ghost use Rattle.nvms.specs.States.{eight_line_state, eight_line_meaning, lines_
 ghost use Rattle.nvm_words.proofs.Owned.{beyond_rests};
 ghost use Rattle.std.proofs.Common.{rules, arith};
 
-use crate::device::EightLineNvm;
+use crate::devices::EightLineNvm;
 use crate::room::{make_room, settle_surplus};
 use device::comeback::Comeback;
 use device::nvm::Nvm;

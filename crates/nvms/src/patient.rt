@@ -11,7 +11,7 @@ ghost use Rattle.nvms.specs.States.{patient_state, patient_meaning};
 ghost use Rattle.nvm_words.proofs.Owned.{beyond_rests};
 ghost use Rattle.std.proofs.Common.{rules};
 
-use crate::device::PatientNvm;
+use crate::devices::PatientNvm;
 use device::comeback::Comeback;
 use device::nvm::Nvm;
 use nvm_words::mark::Mark;

@@ -1,7 +1,7 @@
 //! Acts on a memory, and what stands after them.
 use device::nvm::Nvm;
 use nvm_words::mark::Mark;
-use nvms::device::{EightLineNvm, PatientNvm};
+use nvms::devices::{EightLineNvm, PatientNvm};
 use refusal::reason::Refusal;
 use std::process::Abort;
 

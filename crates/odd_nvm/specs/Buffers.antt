@@ -2,7 +2,7 @@
 use Rattle.std.specs.Prelude.{ℕ, Bool, false, cond, ◌&&◌, vec_items, ◌==◌, slice_index}
 use Rattle.device.specs.Pieces.{settled, unsettled}
 use Rattle.device.specs.Words.{Word, NvmMeaning, waiting}
-use Rattle.odd_nvm.specs.declared.device.BufferedNvm.{BufferedNvm}
+use Rattle.odd_nvm.specs.declared.devices.BufferedNvm.{BufferedNvm}
 
 -- a word with its present value p: it waits if it is in the buffer
 abbrev pub buffered_word : Bool → ℕ → ℕ → Word

@@ -4,7 +4,7 @@ ghost use Rattle.odd_nvm.specs.Buffers.{buffered_meaning, holds_word};
 ghost use Rattle.odd_nvm.specs.Buffered.{beyond};
 ghost use Rattle.std.proofs.Common.{rules, arith};
 
-use crate::device::BufferedNvm;
+use crate::devices::BufferedNvm;
 use device::comeback::Comeback;
 use device::nvm::Nvm;
 use refusal::reason::Refusal;

@@ -3,4 +3,4 @@
 #![tactic(auto)]
 
 pub mod acts;
-pub mod device;
+pub mod devices;

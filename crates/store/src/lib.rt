@@ -2,8 +2,8 @@
 //! devices and any record kind.
 #![tactic(auto)]
 
-pub mod calls;
 pub mod inner;
 pub mod judge;
 pub mod store;
+pub mod store_calls;
 pub mod ticket;

@@ -3,14 +3,14 @@
 #![tactic(auto)]
 
 mod memory;
-mod ring;
+mod ring_lines;
 
 use crate::memory::run_memory;
-use crate::ring::run_ring;
-use desk::ring::RingDesk;
+use crate::ring_lines::run_ring;
+use desk::ring_desk::RingDesk;
 use desk::verbs::{Verb, verb_in};
 use lines::split::first_line;
-use nvms::device::PatientNvm;
+use nvms::devices::PatientNvm;
 use std::io::Read;
 use words::{InShort, InWords};
 use workbench::answer::Answer;

@@ -3,7 +3,7 @@ use desk::verbs::Verb;
 use device::comeback::Comeback;
 use device::nvm::Nvm;
 use nvm_words::mark::Mark;
-use nvms::device::PatientNvm;
+use nvms::devices::PatientNvm;
 use refusal::reason::Refusal;
 use words::InShort;
 use words::memory::Marked;

@@ -9,7 +9,7 @@ use tile::record::Tile;
 use workbench::answer::Answer;
 
 pub mod memory;
-pub mod ring;
+pub mod ring_words;
 
 /// Why a call is refused, in a few words.
 fn reason(why: Refusal) -> &'static str {

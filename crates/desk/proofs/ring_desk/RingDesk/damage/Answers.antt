@@ -1,7 +1,7 @@
 use Rattle.std.proofs.Common.{◌≤◌, length, sym, refl, arith}
 use Rattle.std.proofs.lemmas.List.{set_past}
 use Rattle.std.proofs.lemmas.Bool.{cond-false, le-ltb}
-use Rattle.desk.proofs.ring.RingDesk.damage.Goals as goal
+use Rattle.desk.proofs.ring_desk.RingDesk.damage.Goals as goal
 
 pub returns-then-word-len : goal.returns-then-word-len
 returns-then-word-len c =

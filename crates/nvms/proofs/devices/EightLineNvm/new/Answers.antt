@@ -6,7 +6,7 @@ use Rattle.simulated.proofs.Laws.{same_state}
 use Rattle.nvm_words.specs.Meant.{meant, unsettled_lines}
 use Rattle.nvm_words.specs.Made.{made_lines}
 use Rattle.nvms.specs.Natures.{surplus_settled}
-use Rattle.nvms.proofs.device.EightLineNvm.new.Goals as goal
+use Rattle.nvms.proofs.devices.EightLineNvm.new.Goals as goal
 
 pub invariant_of-result : goal.invariant_of-result
 invariant_of-result c =

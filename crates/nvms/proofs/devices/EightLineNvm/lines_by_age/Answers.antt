@@ -1,5 +1,5 @@
 use Rattle.std.proofs.Common.{length, ap, arith}
-use Rattle.nvms.proofs.device.EightLineNvm.lines_by_age.Goals as goal
+use Rattle.nvms.proofs.devices.EightLineNvm.lines_by_age.Goals as goal
 
 pub returns : goal.returns
 returns c =

@@ -1,7 +1,7 @@
 use Rattle.std.proofs.Common.{sym, ◌∙◌}
 use Rattle.std.proofs.lemmas.Bool.{cond-true, cond-false}
 use Rattle.desk.proofs.Lent.{lent_appends}
-use Rattle.desk.proofs.ring.RingDesk.commit.Goals as goal
+use Rattle.desk.proofs.ring_desk.RingDesk.commit.Goals as goal
 
 pub returns-then-is_some : goal.returns-then-is_some
 returns-then-is_some c = record {

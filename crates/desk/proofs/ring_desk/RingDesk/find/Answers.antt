@@ -1,7 +1,7 @@
 use Rattle.ring.specs.Sources.{word_of}
 use Rattle.ring.specs.Walks.{Finds}
 use Rattle.desk.proofs.Lent.{of_equals}
-use Rattle.desk.proofs.ring.RingDesk.find.Goals as goal
+use Rattle.desk.proofs.ring_desk.RingDesk.find.Goals as goal
 
 pub returns : goal.returns
 returns c = of_equals (λ ws h t. Finds (word_of ws) 32 h t c.args.number c.find.result) c.as_slice.ensures.value c.head.ensures c.tail.ensures c.find.ensures

@@ -1,10 +1,10 @@
 //! Lines about the ring.
-use desk::ring::RingDesk;
+use desk::ring_desk::RingDesk;
 use desk::rings::PLACES;
 use desk::verbs::Verb;
 use refusal::reason::Refusal;
 use words::InShort;
-use words::ring::{Place, Spelled};
+use words::ring_words::{Place, Spelled};
 
 /// A refusal.
 fn refuse(rt: &HostRuntime, why: Refusal) -> anyhow::Result<()> {
