@@ -14,11 +14,9 @@ use device::nvm::Nvm;
 use refusal::reason::Refusal;
 use ringlaws::setting::Setting;
 use ringunits::fill::place_words;
+pub use ringunits::header::TAIL_WORD;
 use ringunits::info::places_taken;
 use ringunits::places::place_after;
-
-/// The word of the tail.
-pub const TAIL_WORD: usize = 16;
 
 /// Stores the words of a unit at a place. Nothing else stores a place.
 pub fn store_place<N: Nvm>(nvm: &mut N, place: usize, words: &[u64; 32]) -> Result<(), Refusal>

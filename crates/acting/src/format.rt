@@ -13,11 +13,7 @@ use crate::memory::{flush_lines, seal, store_words};
 use device::disk::Disk;
 use device::nvm::Nvm;
 use refusal::reason::Refusal;
-
-/// The word of the ground mark.
-pub const GROUND_WORD: usize = 0;
-/// The ground mark, which only a finished format leaves.
-pub const GROUND_MARK: u64 = 0x3C91_E07D_58A2_B46F;
+pub use ringunits::header::{GROUND_MARK, GROUND_WORD};
 
 /// Stores words 1 to 31 of unit 0 and makes them last.
 fn store_header<N: Nvm>(nvm: &mut N, places: usize, blocks: usize) -> Result<(), Refusal>

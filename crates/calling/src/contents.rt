@@ -9,15 +9,7 @@ use checkpointing::loads::Loads;
 use device::nvm::Nvm;
 use refusal::reason::Refusal;
 use ring::walk::check;
-
-/// The word of the ground mark.
-const GROUND_WORD: usize = 0;
-/// The ground mark, which only a finished format leaves.
-const GROUND_MARK: u64 = 0x3C91_E07D_58A2_B46F;
-/// The word of the number of places.
-const PLACES_WORD: usize = 1;
-/// The word of the number of blocks.
-const BLOCKS_WORD: usize = 2;
+use ringunits::header::{BLOCKS_WORD, GROUND_MARK, GROUND_WORD, PLACES_WORD};
 
 /// Why a memory with power and so many places is not mounted beside a disk of so many blocks: no ground mark, a wrong header, an
 /// unsound ring, asked in this order. Else head and tail.

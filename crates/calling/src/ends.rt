@@ -5,11 +5,7 @@ ghost use Rattle.ringlaws.specs.Layout.{head_of, tail_of};
 
 use device::nvm::Nvm;
 use refusal::reason::Refusal;
-
-/// The word of the head.
-const HEAD_WORD: usize = 8;
-/// The word of the tail.
-const TAIL_WORD: usize = 16;
+use ringunits::header::{HEAD_WORD, TAIL_WORD};
 
 /// The number of places, the head and the tail.
 #[derive(Clone, Copy)]

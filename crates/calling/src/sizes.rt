@@ -2,12 +2,12 @@
 ghost use Rattle.std.specs.Prelude.{◌≡◌};
 ghost use Rattle.calls.specs.Plans.{fit_sizes};
 
+use ringunits::header::MOST_BLOCKS;
+
 /// The fewest units of a memory: unit 0 and a ring of 32 places.
 const LEAST_UNITS: usize = 33;
 /// The most units of a memory.
 const MOST_UNITS: usize = 256;
-/// The most blocks of a disk.
-const MOST_BLOCKS: usize = 4096;
 
 /// Whether a memory of so many units and a disk of so many blocks are within the limits.
 pub fn fit_sizes(units: usize, blocks: usize) -> bool

@@ -16,12 +16,8 @@ use crate::loads::Loads;
 use device::disk::Disk;
 use device::nvm::Nvm;
 use refusal::reason::Refusal;
+use ringunits::header::{HEAD_WORD, MOST_BLOCKS};
 use ringunits::places::is_ring;
-
-/// The word of the head.
-const HEAD_WORD: usize = 8;
-/// The most blocks of a disk.
-const MOST_BLOCKS: usize = 4096;
 
 /// Memory for the rows of a ring, taken once.
 #[derive(Drop)]

@@ -1,4 +1,4 @@
--- Any two records of a lawful kind have a history. Assumes nothing.
+-- Any two records of a lawful kind have a history, which is also told as a list of requests. Assumes nothing.
 use Rattle.std.proofs.Common.{◌≡◌, ℕ, ◌≤◌, Bool, true, false, cond, ltb, List, [], ◌∷◌, ◌++◌, sym, refl, ap, ◌∙◌, inl, inr, arith}
 use Rattle.std.proofs.lemmas.Bool.{le-ltb, cases_Bool}
 use Rattle.refusal.specs.declared.reason.Refusal.TheVariants.{Dark}
@@ -24,7 +24,12 @@ use Rattle.book.specs.Commits.{places_taken, none}
 use Rattle.book.specs.Promise.{Lawful}
 use Rattle.book.proofs.Main.{every_run_keeps_the_book}
 use Rattle.book.proofs.Went.{machine}
+use Rattle.promise.specs.declared.request.Return.{Return}
+use Rattle.promise.specs.History.{Came}
+use Rattle.promise.proofs.Heard.{new_stores_are_known}
+use Rattle.promise.proofs.Happened.{runs_are_known, runs_are_told}
 use Rattle.histories.specs.History.{Ending, History, up_to_the_cut, AHistoryHappens}
+use Rattle.histories.specs.Requests.{all_asked, Asked, AListHappens}
 use Rattle.histories.proofs.Performing.{made_by, accepted_performs}
 use Rattle.histories.proofs.Stands.{five, found, Stands, Mounts, mounts, begins, sets, reads, Commits, commits}
 use Rattle.histories.proofs.Cut.{dark, cuts, old, new, old_returns, new_returns, old_stands, new_stands}
@@ -278,6 +283,27 @@ module _ {R : Type 0} (kind : Kind R) (lawful : Lawful kind) where
       with_it = ending y (machine new_pair Unmounted []) new_comes;
       kept = was_kept (machine new_pair Unmounted []) new_comes;
     }
+
+    -- the history as a list of requests
+    as_asked : (how : Return) (z : R) (back : Machine) → Comes z back → Asked kind how x y z
+    as_asked how z back e =
+        let end = ending z back e in
+        let came : Came kind (all_asked x y z) end.book end.last =
+        record { before = machine noise Unmounted []; ends = noise_ends; first = m₁; format = formats.step; run = end.run } in
+        record {
+          new = machine noise Unmounted [];
+          nothing = new_stores_are_known kind (machine noise Unmounted []) refl refl;
+          last = end.last;
+          book = end.book;
+          told = runs_are_told kind lawful how (all_asked x y z) end.book end.last came;
+          known = runs_are_known kind lawful (all_asked x y z) end.book end.last came;
+        }
+
+    list_happens : (how : Return) → Asked kind how x y x × Asked kind how x y y
+    list_happens how = (as_asked how x (machine old_pair Unmounted []) old_comes, as_asked how y (machine new_pair Unmounted []) new_comes)
+
+pub a_list_happens : {R : Type 0} (kind : Kind R) → Lawful kind → AListHappens kind
+a_list_happens kind lawful how x y = list_happens kind lawful x y how
 
 pub a_history_happens : {R : Type 0} (kind : Kind R) → Lawful kind → AHistoryHappens kind
 a_history_happens kind lawful x y = history kind lawful x y

@@ -4,6 +4,7 @@
 
 ghost use Rattle.histories.specs.History.{AHistoryHappens};
 ghost use Rattle.histories.specs.Masts.{MastHistory};
+ghost use Rattle.histories.specs.Requests.{AListHappens};
 ghost use Rattle.order.specs.Order.{kind_of};
 
 use joined::kind::JoinedKind;
@@ -13,6 +14,14 @@ use kinds::kind::RecordKind;
 /// a commit that sets it to y is cut. The one dark store comes back in two ways: in one a read answers x, in the other y.
 pub fn a_history_happens<K: RecordKind>() -> u8
     ensures { AHistoryHappens (kind_of K.RecordKind.unit K.RecordKind.reads) }
+{
+    0
+}
+
+/// The history as a list of requests to a new store on noisy devices: the same requests may end with a read of x and with a read
+/// of y, and all of it is known then.
+pub fn a_list_happens<K: RecordKind>() -> u8
+    ensures { AListHappens (kind_of K.RecordKind.unit K.RecordKind.reads) }
 {
     0
 }

@@ -1,0 +1,38 @@
+//! Read.
+ghost use Rattle.calls.specs.declared.call.Call.TheVariants.{Read};
+ghost use Rattle.order.specs.Order.{InOrder, kind_of};
+ghost use Rattle.settings.specs.Puts.{list_of};
+ghost use Rattle.calling.specs.Seen.{seen};
+ghost use Rattle.engine.specs.Called.{Called};
+ghost use Rattle.device_calls.specs.Answers.{read_answer};
+
+use calling::read::read_call;
+use calls::call::Call;
+use device::disk::Disk;
+use device::nvm::Nvm;
+use engine::engine::Engine;
+use kinds::kind::RecordKind;
+use refusal::reason::Refusal;
+use ringunits::info::all_zero;
+
+/// The record with a number: the open transaction's own setting comes first, then the newest in the ring, then the home.
+pub fn read<N: Nvm, D: Disk, K: RecordKind>(
+    engine: &mut Engine<N, D, K>,
+    number: u64,
+) -> Result<Option<K::Record>, Refusal>
+    ensures { InOrder (seen (N.Nvm.meaning engine.old.nvm) (D.Disk.meaning engine.old.disk) engine.old.state (list_of engine.old.settings)) → Called (kind_of K.RecordKind.unit K.RecordKind.reads)
+        (seen (N.Nvm.meaning engine.old.nvm) (D.Disk.meaning engine.old.disk) engine.old.state (list_of engine.old.settings))
+        (Read number) (read_answer result)
+        (seen (N.Nvm.meaning engine.new.nvm) (D.Disk.meaning engine.new.disk) engine.new.state (list_of engine.new.settings)) }
+{
+    engine.admit(&Call::Read(number))?;
+    let own = engine.settings.unit_of(number);
+    let unit = read_call(&engine.nvm, &engine.disk, own, number, &mut engine.block)?;
+    if all_zero(&unit) {
+        return Ok(None);
+    }
+    match K::decode(&unit) {
+        Some(value) => Ok(Some(value)),
+        None => Err(Refusal::ForeignUnit),
+    }
+}

@@ -1,0 +1,4 @@
+pub mod Ends
+pub mod Heard
+pub mod Happened
+pub mod Lists

@@ -1,0 +1,57 @@
+use Rattle.std.proofs.Common.{List, [], sym, subst, arith}
+use Rattle.calls.specs.declared.answer.Answer.{Answer}
+use Rattle.calls.specs.Plans.{Machine}
+use Rattle.order.specs.Order.{kind_of}
+use Rattle.book.specs.Promise.{Lawful}
+use Rattle.settings.specs.Puts.{list_of}
+use Rattle.calling.specs.Seen.{seen}
+use Rattle.promise.specs.Told.{Performs}
+use Rattle.promise.proofs.Lists.{no_requests}
+use Rattle.running.proofs.Growing.{one_more, all_done}
+use Rattle.running.proofs.run.run.Goals as goal
+
+pub loop-request-init : goal.loop-request-init
+loop-request-init g c =
+    let kind = kind_of g.K.RecordKind.unit g.K.RecordKind.reads in
+    let lawful : Lawful kind = record {
+      whole = g.met.K.RecordKind.whole;
+      nonzero = g.met.K.RecordKind.nonzero;
+      back = g.met.K.RecordKind.back;
+      only = g.met.K.RecordKind.only;
+    } in
+    let m : Machine = seen (g.N.Nvm.meaning c.args.engine.now.nvm) (g.D.Disk.meaning c.args.engine.now.disk) c.args.engine.now.state (list_of c.args.engine.now.settings) in
+    let made = c.in-Ok.ensures in (
+      made.len,
+      made.capacity,
+      subst (λ (l : List (Answer g.row.K-Record.Denot)). Performs kind m [] l m) (sym made.items) (no_requests kind lawful m),
+    )
+
+pub loop-request-preserved : goal.loop-request-preserved
+loop-request-preserved g c =
+    let long = c.push_reserved.ensures.len in
+    let wide = c.push_reserved.ensures.capacity in
+    let many = c.loop-request.invariant.0 in
+    let room = c.loop-request.invariant.1 in (
+      omega (arith, long, many),
+      omega (arith, wide, room),
+      one_more (kind_of g.K.RecordKind.unit g.K.RecordKind.reads) _ _ _ c.args.requests.now c.loop-request.request-index c.request-item.result _ _ c.fulfil-answer.result
+          c.loop-request-test.true c.request-item.is c.push_reserved.ensures.items c.loop-request.invariant.2 c.fulfil-answer.ensures.promise,
+    )
+
+pub push_reserved-requires : goal.push_reserved-requires
+push_reserved-requires g c =
+    let many = c.loop-request.invariant.0 in
+    let room = c.loop-request.invariant.1 in
+    let lt = c.loop-request-test.true in
+    omega (arith, many, room, lt)
+
+pub returns : goal.returns
+returns g c =
+    let many = c.loop-request.invariant.0 in
+    let long = c.loop-request.answers.ok.0 in
+    let all = c.loop-request-test.false in
+    let some = c.loop-request.auto.request-index-end in
+    record {
+      each = omega (arith, many, long, all, some);
+      promise = all_done (kind_of g.K.RecordKind.unit g.K.RecordKind.reads) _ _ c.args.requests.now c.loop-request.request-index _ c.loop-request-test.false c.loop-request.invariant.2;
+    }

@@ -1,0 +1,67 @@
+//! One call, or one restart.
+ghost use Rattle.std.specs.Prelude.{◌≡◌, [], ◌∷◌};
+ghost use Rattle.order.specs.Order.{InOrder, kind_of};
+ghost use Rattle.settings.specs.Puts.{list_of};
+ghost use Rattle.calling.specs.Seen.{seen};
+ghost use Rattle.engine.specs.Called.{Called};
+ghost use Rattle.promise.specs.Told.{Performs};
+ghost use Rattle.running.specs.Asked.{AsAsked};
+
+use crate::tell::{blocks, done, found, used};
+use calls::answer::Answer;
+use calls::call::Call;
+use device::disk::Disk;
+use device::nvm::Nvm;
+use device_calls::checkpoint::{checkpoint, close};
+use device_calls::commit::commit;
+use device_calls::format::format;
+use device_calls::mount::mount;
+use device_calls::read::read;
+use device_calls::restart::restart;
+use engine::engine::Engine;
+use kinds::kind::RecordKind;
+use promise::request::Request;
+
+/// Performs a call and gives its answer.
+pub fn perform<N: Nvm, D: Disk, K: RecordKind>(
+    engine: &mut Engine<N, D, K>,
+    call: &Call<K::Record>,
+) -> Answer<K::Record>
+    ensures { InOrder (seen (N.Nvm.meaning engine.old.nvm) (D.Disk.meaning engine.old.disk) engine.old.state (list_of engine.old.settings)) → Called (kind_of K.RecordKind.unit K.RecordKind.reads)
+        (seen (N.Nvm.meaning engine.old.nvm) (D.Disk.meaning engine.old.disk) engine.old.state (list_of engine.old.settings))
+        call.now result
+        (seen (N.Nvm.meaning engine.new.nvm) (D.Disk.meaning engine.new.disk) engine.new.state (list_of engine.new.settings)) }
+{
+    match call {
+        Call::Format => done(format(engine)),
+        Call::Mount => blocks(mount(engine)),
+        Call::Begin => done(engine.begin()),
+        Call::Set(number, value) => done(engine.set(*number, value)),
+        Call::Clear(number) => done(engine.clear(*number)),
+        Call::Read(number) => found(read(engine, *number)),
+        Call::Commit => used(commit(engine)),
+        Call::Abandon => done(engine.abandon()),
+        Call::Checkpoint => blocks(checkpoint(engine)),
+        Call::Close => done(close(engine)),
+    }
+}
+
+/// Performs a request. A restart answers that it is done, and asks each device to come back as the request says.
+pub fn fulfil<N: Nvm, D: Disk, K: RecordKind>(
+    engine: &mut Engine<N, D, K>,
+    request: &Request<K::Record>,
+) -> Answer<K::Record>
+    ensures promise { Performs (kind_of K.RecordKind.unit K.RecordKind.reads)
+        (seen (N.Nvm.meaning engine.old.nvm) (D.Disk.meaning engine.old.disk) engine.old.state (list_of engine.old.settings))
+        (request.now ∷ []) (result ∷ [])
+        (seen (N.Nvm.meaning engine.new.nvm) (D.Disk.meaning engine.new.disk) engine.new.state (list_of engine.new.settings)) }
+    ensures back { AsAsked N.Nvm.comes D.Disk.comes engine.old.nvm engine.old.disk request.now engine.new.nvm engine.new.disk }
+{
+    match request {
+        Request::Call(call) => perform(engine, call),
+        Request::Restart(back) => {
+            restart(engine, back);
+            Answer::Done
+        }
+    }
+}
