@@ -18,7 +18,7 @@ back (Mast m) = ap (option_map Mast) (masts.back m)
 -- one kind's record, wrapped, has that kind's unit
 wrapped : {R : Type 0} (wrap : R → Joined) (unit : R → List ℕ) → ((x : R) → joined_unit (wrap x) ≡ unit x)
     → (u : List ℕ) (o : Option R) → ((x : R) → o ≡ Some x → u ≡ unit x) → (r : Joined) → option_map wrap o ≡ Some r → u ≡ joined_unit r
-wrapped wrap unit same u None only r e = let z : ◌≡◌ {A = ℕ} 0 1 = cc in absurd (omega arith)
+wrapped wrap unit same u None only r e = cc
 wrapped wrap unit same u (Some x) only r e =
     let s : wrap x ≡ r = cc in
     only x (λ _. Some x) ∙ sym (same x) ∙ ap joined_unit s

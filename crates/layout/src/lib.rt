@@ -15,8 +15,6 @@ pub fn field<const WIDTH: usize>(word: u64, i: usize) -> u64
 }
 
 /// What is laid into the words of a unit comes out of it, and words that are taken apart are put together again.
-pub fn fields_come_back() -> u8
+pub fn fields_come_back()
     ensures { FieldsComeBack × WordsComeBack }
-{
-    0
-}
+{}

@@ -1,11 +1,11 @@
 -- The three laws of the mast kind, and which units read as a mast.
-use Rattle.std.specs.Prelude.{◌≡◌, ℕ, ◌+◌, ◌-◌, ◌^◌, ◌*◌, ◌<◌, ◌≤◌, Bool, true, false, cond, List, ◌∷◌, length, take, drop, is_some, Some, None, Ok, Err, Option, Result, MatchResult, ◌≢◌, nat_le, slice_index, slice_index_or, slice_range, refl}
+use Rattle.std.specs.Prelude.{◌≡◌, ℕ, ◌+◌, ◌-◌, ◌^◌, ◌*◌, ◌<◌, ◌≤◌, Bool, true, false, cond, List, ◌∷◌, length, drop, is_some, Some, None, Ok, Err, Option, Result, MatchResult, ◌≢◌, nat_le, slice_index, slice_index_or, refl}
 use Rattle.std.proofs.Common.{ap, sym, subst, ◌∙◌, inl, inr, arith}
 use denote.Struct.Record.{values_one}
 use Rattle.std.specs.Result.{result_ok}
 use Rattle.std.specs.Str.{bytes_eq}
 use Rattle.std.proofs.lemmas.Slice.Eq.{bytes_eq-Decides}
-use Rattle.std.proofs.lemmas.List.{ext_get_or, get_or-take, get_or-drop, get_or_past, length-take-le, length-drop}
+use Rattle.std.proofs.lemmas.List.{ext_get_or, get_or-take, get_or-drop, get_or_past, length-drop}
 use Rattle.std.proofs.lemmas.Bool.{and_from, and_parts, leb-true, le-leb, eqb-true, eq-eqb, cond-true, cond-false, cases_Bool, both_ways}
 use Rattle.refusal.specs.declared.reason.Refusal.{Refusal}
 use Rattle.refusal.specs.declared.reason.Refusal.TheVariants.{NameLength, NameByte}
@@ -63,7 +63,7 @@ mast_some : (number : ℕ) (name : List ℕ) (b : Bool) (fits : is_name name ≡
 mast_some number name true fits m e =
     sym (ap (mast_words number) (padded_name name))
     ∙ ap (λ (o : Option Mast). elim o as (λ _. List ℕ) [ Some x ↦ mast_unit x | None ↦ mast_unit m ]) e
-mast_some number name false fits m e = let z : ◌≡◌ {A = ℕ} 0 1 = cc in absurd (omega arith)
+mast_some number name false fits m e = cc
 
 pub only : (u : List ℕ) (m : Mast) → mast_reads u ≡ Some m → u ≡ mast_unit m
 unfolding mast_reads
@@ -76,8 +76,7 @@ only u m e =
           ∙ mast_some (slice_index u 1) (name_in u) (is_name (name_in u)) refl m (sym (cond-true (bytes_eq u words) made None same) ∙ e)
       | inr other ↦
           let f : None ≡ Some m = sym (cond-false (bytes_eq u words) made None other) ∙ e in
-          let z : ◌≡◌ {A = ℕ} 0 1 = cc in
-          absurd (omega arith)
+          cc
     ]
 
 none_from : (u : List ℕ) (o : Option Mast) → mast_reads u ≡ o → ((m : Mast) → u ≢ mast_unit m) → o ≡ None
@@ -99,15 +98,8 @@ accepted name fits =
     cond-true (is_length (length name)) (cond (list_all is_printed name) None (Some NameByte)) (Some NameLength) parts.0
     ∙ cond-true (list_all is_printed name) None (Some NameByte) parts.1
 
-rest_long : (u : List ℕ) (size : ℕ) → length (slice_range (bytes_in u) size 232) ≡ 232 - size
-rest_long u size = length-take-le (232 - size) (drop size (bytes_in u)) (omega (arith, length-drop size (bytes_in u), bytes_long u))
-
-rest_at : (u : List ℕ) (size j k : ℕ) → size + k ≡ j → j < 232 → slice_index (slice_range (bytes_in u) size 232) k ≡ byte_at u j
-rest_at u size j k at lt =
-    get_or-take (232 - size) (drop size (bytes_in u)) k 0 (omega arith)
-    ∙ get_or-drop size (bytes_in u) k 0
-    ∙ ap (λ (i : ℕ). slice_index (bytes_in u) i) at
-    ∙ byte_in u j lt
+rest_at : (u : List ℕ) (size j k : ℕ) → size + k ≡ j → j < 232 → slice_index (drop size (bytes_in u)) k ≡ byte_at u j
+rest_at u size j k at lt = get_or-drop size (bytes_in u) k 0 ∙ ap (λ (i : ℕ). slice_index (bytes_in u) i) at ∙ byte_in u j lt
 
 -- making a mast of the name that stands in a unit with zeros after it reads the unit
 pub made_reads : (u name : List ℕ) (r : Result Mast Refusal) → length u ≡ 32 → slice_index u 0 ≡ 2 → ((i : ℕ) → slice_index u i < 2 ^ 64) → slice_index u 2 ≤ 232
@@ -122,23 +114,22 @@ made_reads u name (Ok m) long kind fits most padding found made =
 made_reads u name (Err e) long kind fits most padding found refused =
     sym (reads_none u (λ m w.
     let none : mast_refusal name ≡ None = ap mast_refusal found ∙ accepted (name_in u) (unit_fits u m w) in
-    let z : ◌≡◌ {A = ℕ} 0 1 = cc in
-    omega arith))
+    cc))
 
 -- the bytes after the name are zero, one by one or tested together
-pub padding_of : (u : List ℕ) (size : ℕ) → list_all is_padding (slice_range (bytes_in u) size 232) ≡ true → size ≤ 232 → (j : ℕ) → size ≤ j → j < 232 → byte_at u j ≡ 0
-padding_of u size h le j ge lt =
+pub padding_of : (u : List ℕ) (size : ℕ) → list_all is_padding (drop size (bytes_in u)) ≡ true → (j : ℕ) → size ≤ j → j < 232 → byte_at u j ≡ 0
+padding_of u size h j ge lt =
     let k : ℕ = j - size in
     let at : size + k ≡ j = omega arith in
-    let rest : List ℕ = take (232 - size) (drop size (bytes_in u)) in
-    let long : k < length rest = omega (arith, rest_long u size) in
+    let rest : List ℕ = drop size (bytes_in u) in
+    let long : k < length rest = omega (arith, length-drop size (bytes_in u), bytes_long u) in
     sym (rest_at u size j k at lt) ∙ eqb-true (slice_index rest k) 0 (AllPass-from_list_all is_padding rest h k 0 long)
 
-pub of_padding : (u : List ℕ) (size : ℕ) → ((j : ℕ) → size ≤ j → j < 232 → byte_at u j ≡ 0) → list_all is_padding (slice_range (bytes_in u) size 232) ≡ true
+pub of_padding : (u : List ℕ) (size : ℕ) → ((j : ℕ) → size ≤ j → j < 232 → byte_at u j ≡ 0) → list_all is_padding (drop size (bytes_in u)) ≡ true
 of_padding u size h =
-    let rest : List ℕ = take (232 - size) (drop size (bytes_in u)) in
+    let rest : List ℕ = drop size (bytes_in u) in
     list_all-from_AllPass is_padding rest (All-from_get_or (λ x. is_padding x ≡ true) rest 0 (λ k lt.
-    let small : size + k < 232 = omega (arith, rest_long u size) in
+    let small : size + k < 232 = omega (arith, length-drop size (bytes_in u), bytes_long u) in
     let ge : size ≤ size + k = omega arith in
     eq-eqb (slice_index rest k) 0 (rest_at u size (size + k) k refl small ∙ h (size + k) ge small)))
 
@@ -160,7 +151,7 @@ shape_of m =
 
 shape_from : (u : List ℕ) (o : Option Mast) → mast_reads u ≡ o → is_some o ≡ true → MastShape u
 shape_from u (Some m) e h = subst MastShape (sym (only u m e)) (shape_of m)
-shape_from u None e h = let z : ◌≡◌ {A = ℕ} 0 1 = cc in absurd (omega arith)
+shape_from u None e h = cc
 
 if_some : (number : ℕ) (name : List ℕ) (b : Bool) (fits : is_name name ≡ b) → b ≡ true → is_some (mast_if number name b fits) ≡ true
 if_some number name true fits h = refl

@@ -39,8 +39,8 @@ front bytes size j le padding =
 
 passed : (a b : Bool) → cond a (cond b None (Some NameByte)) (Some NameLength) ≡ None → (a && b) ≡ true
 passed true true e = refl
-passed true false e = let z : ◌≡◌ {A = ℕ} 0 1 = cc in absurd (omega arith)
-passed false b e = let z : ◌≡◌ {A = ℕ} 0 1 = cc in absurd (omega arith)
+passed true false e = cc
+passed false b e = cc
 
 -- what is not refused is a name
 pub name_fits : (name : List ℕ) → None ≡ mast_refusal name → is_name name ≡ true

@@ -66,21 +66,19 @@ impl RecordKind for MastKind {
     }
 
     fn decode(words: &[u64; 32]) -> Option<Mast> {
-        if words[0] != 2 || words[2] > 232 {
+        if words[0] != 2 {
             return None;
         }
-        let size = words[2] as usize;
         let bytes = bytes_in(words);
-        if !are_padding(&bytes[size..232]) {
+        let (name, padding) = bytes.split_at_checked(words[2] as usize)?;
+        if !are_padding(padding) {
             return None;
         }
-        Mast::new(words[1], &bytes[0..size]).ok()
+        Mast::new(words[1], name).ok()
     }
 }
 
 /// By words, ranges and padding alone: which units read as a mast.
-pub fn masts_read_exactly() -> u8
+pub fn masts_read_exactly()
     ensures { MastsReadExactly }
-{
-    0
-}
+{}

@@ -12,7 +12,7 @@ use std::str::from_utf8;
 fn is_printed(byte: u8) -> bool
     ensures { result ≡ is_printed byte }
 {
-    0x20 <= byte && byte <= 0x7e
+    (0x20..=0x7e).contains(&byte)
 }
 
 /// Whether all of the bytes are printed ASCII.

@@ -45,7 +45,7 @@ back t =
 
 tile_some : (column row plan : ℕ) (levels : List ℤ) (long : length levels ≡ 112) (b : Bool) (fits : is_tile column row levels ≡ b) (t : Tile) → tile_if column row plan levels long b fits ≡ Some t → tile_words column row plan levels ≡ tile_unit t
 tile_some column row plan levels long true fits t e = ap (λ (o : Option Tile). elim o as (λ _. List ℕ) [ Some x ↦ tile_unit x | None ↦ tile_unit t ]) e
-tile_some column row plan levels long false fits t e = let z : ◌≡◌ {A = ℕ} 0 1 = cc in absurd (omega arith)
+tile_some column row plan levels long false fits t e = cc
 
 pub only : (u : List ℕ) (t : Tile) → tile_reads u ≡ Some t → u ≡ tile_unit t
 unfolding tile_reads
@@ -59,8 +59,7 @@ only u t e =
           (sym (cond-true (bytes_eq u words) made None same) ∙ e)
       | inr other ↦
           let f : None ≡ Some t = sym (cond-false (bytes_eq u words) made None other) ∙ e in
-          let z : ◌≡◌ {A = ℕ} 0 1 = cc in
-          absurd (omega arith)
+          cc
     ]
 
 none_from : (u : List ℕ) (o : Option Tile) → tile_reads u ≡ o → ((t : Tile) → u ≢ tile_unit t) → o ≡ None
@@ -100,8 +99,7 @@ made_reads u levels (Err e) long kind fits found refused =
     sym (reads_none u (λ t w.
     let none : tile_refusal (slice_index u 1) (slice_index u 2) levels ≡ None =
     ap (tile_refusal (slice_index u 1) (slice_index u 2)) found ∙ accepted (slice_index u 1) (slice_index u 2) (levels_in u) (unit_fits u t w) in
-    let z : ◌≡◌ {A = ℕ} 0 1 = cc in
-    omega arith))
+    cc))
 
 shape_of : (t : Tile) → TileShape (tile_unit t)
 shape_of t = record {
@@ -115,7 +113,7 @@ shape_of t = record {
 
 shape_from : (u : List ℕ) (o : Option Tile) → tile_reads u ≡ o → is_some o ≡ true → TileShape u
 shape_from u (Some t) e h = subst TileShape (sym (only u t e)) (shape_of t)
-shape_from u None e h = let z : ◌≡◌ {A = ℕ} 0 1 = cc in absurd (omega arith)
+shape_from u None e h = cc
 
 if_some : (column row plan : ℕ) (levels : List ℤ) (long : length levels ≡ 112) (b : Bool) (fits : is_tile column row levels ≡ b) → b ≡ true → is_some (tile_if column row plan levels long b fits) ≡ true
 if_some column row plan levels long true fits h = refl

@@ -13,6 +13,7 @@ use layout::field;
 use std::array;
 
 /// Word `k` of the levels: four of them, the first in its lowest 16 bits.
+// Kept: names have no packing of their own to share, as std's `from_le_bytes` is theirs, and a generic is longer than these four terms.
 fn level_word(levels: &[i16; 112], k: usize) -> u64
     requires { k < 28 }
     ensures { result ≡ word_of 16 4 (level_bits levels.now) k }
@@ -80,8 +81,6 @@ impl RecordKind for TileKind {
 }
 
 /// By words and ranges alone: which units read as a tile.
-pub fn tiles_read_exactly() -> u8
+pub fn tiles_read_exactly()
     ensures { TilesReadExactly }
-{
-    0
-}
+{}

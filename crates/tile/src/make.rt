@@ -16,7 +16,7 @@ const HIGHEST: i16 = 500;
 fn is_level(tenths: i16) -> bool
     ensures { result ≡ is_level tenths }
 {
-    LOWEST <= tenths && tenths <= HIGHEST
+    (LOWEST..=HIGHEST).contains(&tenths)
 }
 
 /// Whether all of the numbers are levels.
