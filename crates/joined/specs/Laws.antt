@@ -1,6 +1,6 @@
 -- The laws of the joined kind follow from those of its two kinds and from word 0.
 use Rattle.std.specs.Prelude.{◌≡◌, ℕ, List, Some, None, Option, ◌==◌, slice_index}
-use Rattle.std.proofs.Common.{ap, sym, ◌∙◌, inl, inr, arith}
+use Rattle.std.proofs.Common.{ap, sym, ◌∙◌, inl, inr}
 use Rattle.std.specs.Option.{option_map}
 use Rattle.std.proofs.lemmas.Bool.{cond-true, cond-false, cases_Bool}
 use Rattle.tile.specs.Tiles.{tile_unit, tile_reads}
