@@ -1,6 +1,6 @@
 -- The laws of the joined kind follow from those of its two kinds and from word 0.
 use Rattle.std.specs.Prelude.{◌≡◌, ℕ, List, Some, None, Option, ◌==◌, slice_index}
-use Rattle.std.proofs.Common.{ap, sym, ◌∙◌, inl, inr, arith}
+use Rattle.std.proofs.Common.{ap, sym, ◌∙◌, inl, inr}
 use Rattle.std.specs.Option.{option_map}
 use Rattle.std.proofs.lemmas.Bool.{cond-true, cond-false, cases_Bool}
 use Rattle.tile.specs.Tiles.{tile_unit, tile_reads}
@@ -18,7 +18,7 @@ back (Mast m) = ap (option_map Mast) (masts.back m)
 -- one kind's record, wrapped, has that kind's unit
 wrapped : {R : Type 0} (wrap : R → Joined) (unit : R → List ℕ) → ((x : R) → joined_unit (wrap x) ≡ unit x)
     → (u : List ℕ) (o : Option R) → ((x : R) → o ≡ Some x → u ≡ unit x) → (r : Joined) → option_map wrap o ≡ Some r → u ≡ joined_unit r
-wrapped wrap unit same u None only r e = let z : ◌≡◌ {A = ℕ} 0 1 = cc in absurd (omega arith)
+wrapped wrap unit same u None only r e = cc
 wrapped wrap unit same u (Some x) only r e =
     let s : wrap x ≡ r = cc in
     only x (λ _. Some x) ∙ sym (same x) ∙ ap joined_unit s

@@ -4,6 +4,7 @@ ghost use Rattle.mast.specs.Names.{is_name};
 
 /// A mast: its number, and its name of 1 to 232 bytes of printed ASCII. The name is the first `size` bytes; those after it
 /// are zero.
+// Kept: `arrayvec`'s vector is not `Copy`, and its text has spare bytes of which no clause speaks, so that no unit reads as one mast.
 #[derive(Clone, Copy, PartialEq, Eq, Debug)]
 pub struct Mast {
     pub(crate) number: u64,

@@ -10,6 +10,7 @@ use reason::Refusal;
 
 impl Refusal {
     /// The number that stands for this refusal in answers and in documents.
+    // Kept: a method and no `From`, which loses nothing of what it converts: the number leaves out the unsound ring's place.
     pub fn number(self) -> u32
         ensures { result ≡ number_of self }
     {
