@@ -63,24 +63,21 @@ impl Words {
     pub fn present_at(&self, word: usize) -> Option<u64>
         ensures { result ≡ present_at (meant self.now) word }
     {
-        let cell = self.cells.get(word)?;
-        Some(cell.present())
+        self.cells.get(word).map(|cell| cell.present())
     }
 
     /// The settled value of a word: what it would come back as, if it came back old.
     pub fn settled_at(&self, word: usize) -> Option<u64>
         ensures { result ≡ settled_at (meant self.now) word }
     {
-        let cell = self.cells.get(word)?;
-        Some(cell.settled())
+        self.cells.get(word).map(|cell| cell.settled())
     }
 
     /// The mark of a word.
     pub fn mark_at(&self, word: usize) -> Option<Mark>
         ensures { result ≡ mark_at (meant self.now) word }
     {
-        let cell = self.cells.get(word)?;
-        Some(cell.mark())
+        self.cells.get(word).map(|cell| cell.mark())
     }
 
     /// Whether a store into a word is refused.

@@ -11,12 +11,9 @@ pub(crate) fn any_unsettled(cells: &[Cell], line: usize) -> bool
     requires { 8 * line + 8 ≤ length cells.now }
     ensures { result ≡ is_unsettled_line (cells_word cells.now) line }
 {
-    for k in 0..8 {
-        if cells[8 * line + k].is_unsettled() {
-            return true;
-        }
-    }
-    false
+    cells[8 * line..8 * line + 8]
+        .iter()
+        .any(|cell| cell.is_unsettled())
 }
 
 /// Changes the words of a line.
@@ -25,6 +22,7 @@ pub(crate) fn change_line<F: Fn(usize, Cell) -> Cell>(cells: &mut [Cell], line: 
     requires callable { F.IsAlwaysCallable change.now }
     ensures { (makes : ℕ → Word → Word) → Makes (F.post change.now) makes → Within (8 * line) (8 * line + 8) makes cells.old cells.new }
 {
+    // Kept: the change is told the number of the word, which an enumeration of the eight would count from 0.
     for word in 8 * line..8 * line + 8 {
         cells[word] = change(word, cells[word]);
     }

@@ -14,7 +14,7 @@ pub struct Words {
     pub(crate) units: usize,
     pub(crate) supply: Supply,
     pub(crate) cells: Vec<Cell>,
-    // room for a fence to note which lines still hold an unsettled word
+    // Kept: a fence takes no memory, so the room to note which lines still hold an unsettled word is here.
     pub(crate) holds: Vec<bool>,
     pub(crate) pending: Pending,
     ghost cells_long: { vec_len cells ≡ 32 * units },
