@@ -1,5 +1,7 @@
 -- Whether one of some tests is true. Assumes nothing.
-use Rattle.std.proofs.Common.{◌≡◌, ℕ, zero, suc, ◌+◌, ◌<◌, Bool, true, false, ◌||◌, sym, refl, ap, ◌∙◌, inl, inr, not-suc-le-zero, arith}
+use Rattle.std.proofs.Common.{◌≡◌, ℕ, zero, suc, ◌+◌, ◌<◌, Bool, true, false, ◌≤◌, ◌||◌, List, length, get_or, take, sym, refl, ap, ◌∙◌, inl, inr, not-suc-le-zero, arith}
+use Rattle.std.specs.List.{list_any}
+use Rattle.std.proofs.lemmas.List.Folds.{list_any_more}
 use Rattle.std.proofs.lemmas.Bool.{cases_eq}
 use Rattle.device.specs.Sectors.{any_below}
 
@@ -26,17 +28,22 @@ any_true f n k l e = by_test (any_below f n) refl
     by_test true i = refl
     by_test false i = sym (any_false f n i k l) ∙ e
 
-pub any_zero : (f : ℕ → Bool) → any_below f 0 ≡ false
-unfolding any_below
-any_zero f = refl
-
-pub any_more : (f : ℕ → Bool) (n : ℕ) → any_below f n ≡ false → f n ≡ false → any_below f (n + 1) ≡ false
-unfolding any_below
-any_more f n h e =
-    let q : n + 1 ≡ suc n = omega arith in
-    ap (any_below f) q ∙ ap (λ t. t || any_below f n) e ∙ h
-
 pub any_same : (f g : ℕ → Bool) (n : ℕ) → ((k : ℕ) → k < n → f k ≡ g k) → any_below f n ≡ any_below g n
 unfolding any_below
 any_same f g zero h = refl
 any_same f g (suc n) h = ap (λ t. t || any_below f n) (h n (omega arith)) ∙ ap (λ t. g n || t) (any_same f g n (λ k l. h k (omega arith)))
+
+-- whether one of the first elements of a list passes
+pub any_listed : {X : Type 0} (p : X → Bool) (xs : List X) (d : X) (n : ℕ) → n ≤ length xs → list_any p (take n xs) ≡ any_below (λ k. p (get_or xs k d)) n
+unfolding any_below
+any_listed p xs d zero le = refl
+any_listed p xs d (suc n) le =
+    ap (λ k. list_any p (take k xs)) (let q : suc n ≡ n + 1 = omega arith in q)
+    ∙ list_any_more p xs n d (omega arith) ∙ ap (λ b. b || p (get_or xs n d)) (any_listed p xs d n (omega arith))
+    ∙ swap (any_below (λ k. p (get_or xs k d)) n) (p (get_or xs n d))
+  where
+    swap : (s t : Bool) → s || t ≡ t || s
+    swap true true = refl
+    swap true false = refl
+    swap false true = refl
+    swap false false = refl

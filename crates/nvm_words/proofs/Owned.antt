@@ -3,8 +3,8 @@ use Rattle.std.proofs.Common.{◌≡◌, ℕ, ◌+◌, ◌*◌, ◌<◌, ◌≤�
 use Rattle.std.proofs.lemmas.List.{get_or_past}
 use Rattle.device.specs.Pieces.{is_unsettled}
 use Rattle.simulated.proofs.Flags.{listed_within}
-use Rattle.nvm_words.specs.declared.mark.Mark.TheVariants.{Settled}
-use Rattle.nvm_words.specs.Marks.{word_of}
+use Rattle.nvm_words.specs.declared.cell.Cell.TheVariants.{Settled}
+use Rattle.nvm_words.specs.Cells.{cell_word}
 use Rattle.nvm_words.specs.declared.words.Words.{Words}
 use Rattle.nvm_words.specs.Meant.{meant, unsettled_lines}
 
@@ -21,5 +21,4 @@ listed_words n ls is m e k lt = omega (arith, listed_below n ls is k lt)
 
 -- there is nothing to settle beyond the size
 pub beyond_rests : (n : Words) (w : ℕ) → 32 * n.units ≤ w → is_unsettled ((meant n).piece w) ≡ false
-beyond_rests n w far =
-    ap (λ m. is_unsettled (word_of (get_or n.settled.items w 0) (get_or n.present.items w 0) m)) (get_or_past n.marks.items w Settled (omega (arith, n.marks.ok.0, n.marks_long)))
+beyond_rests n w far = ap (λ c. is_unsettled (cell_word c)) (get_or_past n.cells.items w (Settled 0) (omega (arith, n.cells.ok.0, n.cells_long)))

@@ -1,4 +1,5 @@
 pub mod Marks
+pub mod Cells
 pub mod Meant
 pub mod Acts
 pub mod Looks

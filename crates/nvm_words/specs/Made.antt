@@ -24,6 +24,11 @@ made_of ss ps ms acts = record { meaning = record { size = units_in ss ps ms; da
 abbrev pub made_lines : List ℕ → List ℕ → List Mark → List ℕ
 made_lines ss ps ms = filter (is_unsettled_line (made_word ss ps ms)) (range_with_len 0 (4 * units_in ss ps ms))
 
+-- some units of these words, with power for a number of acts
+pub record MadeOf (units : ℕ) (word : ℕ → Word) (acts : ℕ) (n : Words) : Type 0 where
+  pub state : simulated_nvm n ≡ record { meaning = record { size = units; dark = false; piece = word }; left = acts }
+  pub lines : unsettled_lines n ≡ filter (is_unsettled_line word) (range_with_len 0 (4 * units))
+
 pub record Made (ss ps : List ℕ) (ms : List Mark) (acts : ℕ) (n : Words) : Type 0 where
   pub state : simulated_nvm n ≡ made_of ss ps ms acts
   pub lines : unsettled_lines n ≡ made_lines ss ps ms

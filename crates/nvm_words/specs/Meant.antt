@@ -1,19 +1,19 @@
 -- What the words of a simulated memory mean, and how they may change. Assumes nothing.
-use Rattle.std.specs.Prelude.{◌≡◌, ℕ, ◌+◌, ◌*◌, ◌/◌, Bool, cond, List, vec_items, ◌==◌}
-use Rattle.device.specs.Pieces.{settled, present_value, is_unsettled}
+use Rattle.std.specs.Prelude.{◌≡◌, ℕ, ◌/◌, cond, List, vec_items, ◌==◌}
+use Rattle.device.specs.Pieces.{settled, present_value}
 use Rattle.device.specs.Words.{Word, WordMark, NvmMeaning}
-use Rattle.device.specs.Sectors.{any_below}
 use Rattle.simulated.specs.declared.supply.Supply.{Supply}
 use Rattle.simulated.specs.Listing.{lines_of}
 use Rattle.simulated.specs.Natures.{Simulated}
 use Rattle.nvm_words.specs.declared.words.Words.{Words}
-use Rattle.nvm_words.specs.Marks.{words_in}
+use Rattle.nvm_words.specs.Cells.{cells_word}
+pub use Rattle.nvm_words.specs.Cells.{is_unsettled_line}
 
 abbrev pub meant : Words → NvmMeaning
 meant n = record {
   size = n.units;
   dark = n.supply.dark;
-  piece = words_in (vec_items n.settled) (vec_items n.present) (vec_items n.marks);
+  piece = cells_word (vec_items n.cells);
 }
 
 -- the meaning with the number of acts that are left
@@ -23,10 +23,6 @@ simulated_nvm n = record { meaning = meant n; left = n.supply.left }
 -- the lines that hold an unsettled word, the one that became so earliest first
 abbrev pub unsettled_lines : Words → List ℕ
 unsettled_lines n = lines_of n.pending
-
--- a line of some words holds an unsettled one
-abbrev pub is_unsettled_line : (ℕ → Word) → ℕ → Bool
-is_unsettled_line word l = any_below (λ k. is_unsettled (word (8 * l + k))) 8
 
 -- the words of a line settle
 abbrev pub line_settled : ℕ → ℕ → Word → Word

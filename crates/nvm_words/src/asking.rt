@@ -56,44 +56,28 @@ impl Words {
         if self.supply.is_dark() {
             return Err(Refusal::Dark);
         }
-        if word >= self.present.len() {
-            return Err(Refusal::Beyond);
-        }
-        Ok(self.present[word])
+        self.present_at(word).ok_or(Refusal::Beyond)
     }
 
     /// The present value of a word, for tests and tools: in the dark too.
     pub fn present_at(&self, word: usize) -> Option<u64>
         ensures { result ≡ present_at (meant self.now) word }
     {
-        if word >= self.present.len() {
-            return None;
-        }
-        Some(self.present[word])
+        self.cells.get(word).map(|cell| cell.present())
     }
 
     /// The settled value of a word: what it would come back as, if it came back old.
     pub fn settled_at(&self, word: usize) -> Option<u64>
         ensures { result ≡ settled_at (meant self.now) word }
     {
-        if word >= self.marks.len() {
-            return None;
-        }
-        if self.marks[word].is_unsettled() {
-            Some(self.settled[word])
-        } else {
-            Some(self.present[word])
-        }
+        self.cells.get(word).map(|cell| cell.settled())
     }
 
     /// The mark of a word.
     pub fn mark_at(&self, word: usize) -> Option<Mark>
         ensures { result ≡ mark_at (meant self.now) word }
     {
-        if word >= self.marks.len() {
-            return None;
-        }
-        Some(self.marks[word])
+        self.cells.get(word).map(|cell| cell.mark())
     }
 
     /// Whether a store into a word is refused.
@@ -103,10 +87,8 @@ impl Words {
         if self.supply.is_dark() {
             return Err(Refusal::Dark);
         }
-        if word >= self.marks.len() {
-            return Err(Refusal::Beyond);
-        }
-        if self.marks[word].is_unsettled() {
+        let cell = self.cells.get(word).ok_or(Refusal::Beyond)?;
+        if cell.is_unsettled() {
             return Err(Refusal::Unsettled);
         }
         Ok(())
@@ -119,7 +101,7 @@ impl Words {
         if self.supply.is_dark() {
             return Err(Refusal::Dark);
         }
-        if line >= self.marks.len() / 8 {
+        if line >= self.cells.len() / 8 {
             return Err(Refusal::Beyond);
         }
         Ok(())

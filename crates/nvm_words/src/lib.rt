@@ -3,6 +3,7 @@
 
 pub mod acting;
 pub mod asking;
+mod cell;
 pub mod making;
 pub mod mark;
 pub mod restarting;

@@ -3,10 +3,11 @@ ghost use Rattle.std.specs.Prelude.{◌≡◌, []};
 ghost use Rattle.simulated.specs.Natures.{returned};
 ghost use Rattle.nvm_words.specs.Meant.{simulated_nvm, unsettled_lines};
 
-use crate::mark::Change;
-use crate::rows::{change_lines, revert_lines};
+use crate::cell::Cell;
+use crate::rows::change_lines;
 use crate::words::Words;
 use device::comeback::Comeback;
+use simulated::taking::takes_new;
 
 impl Words {
     /// Power returns for a number of acts: each unsettled word takes its settled or its present value, as `how` says, and is
@@ -15,17 +16,10 @@ impl Words {
         ensures state { simulated_nvm self.new ≡ returned how.now acts (simulated_nvm self.old) }
         ensures lines { unsettled_lines self.new ≡ [] }
     {
-        revert_lines(
-            self.settled.as_slice(),
-            self.present.as_mut_slice(),
-            self.marks.as_slice(),
-            self.pending.as_slice(),
-            how,
-        );
         change_lines(
-            self.marks.as_mut_slice(),
+            self.cells.as_mut_slice(),
             self.pending.as_slice(),
-            Change::Settle,
+            &|word, cell: Cell| cell.returned(takes_new(how, word)),
         );
         self.pending.clear();
         self.supply.restore(acts);

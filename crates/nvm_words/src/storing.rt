@@ -5,7 +5,7 @@ ghost use Rattle.device.specs.Words.{Store, Flush, Fence, nvm_makes};
 ghost use Rattle.simulated.specs.Listing.{with_line, without_first};
 ghost use Rattle.nvm_words.specs.Meant.{meant, unsettled_lines, is_unsettled_line, line_settled, Became};
 
-use crate::mark::{Change, Mark};
+use crate::cell::Cell;
 use crate::rows::{change_line, change_lines, note_lines};
 use crate::words::Words;
 
@@ -15,9 +15,8 @@ impl Words {
         requires { (word < 32 * self.old.units) × (is_unsettled ((meant self.old).piece word) ≡ false) }
         ensures { Became self.old.supply (nvm_makes (Store word value)) (with_line (unsettled_lines self.old) (word / 8)) self.old self.new }
     {
-        self.settled[word] = self.present[word];
-        self.present[word] = value;
-        self.marks[word] = Mark::Waiting;
+        let old = self.cells[word].settled();
+        self.cells[word] = Cell::Waiting { old, new: value };
         self.pending.add(word / 8);
     }
 
@@ -28,7 +27,11 @@ impl Words {
     {
         let lines = self.pending.as_slice();
         let line = lines[0];
-        change_line(self.marks.as_mut_slice(), line, Change::Settle);
+        change_line(
+            self.cells.as_mut_slice(),
+            line,
+            &|_, cell: Cell| { cell.returned(true) },
+        );
         self.pending.remove_first();
     }
 
@@ -37,7 +40,11 @@ impl Words {
         requires { line < 4 * self.old.units }
         ensures { Became self.old.supply (nvm_makes (Flush line)) (unsettled_lines self.old) self.old self.new }
     {
-        change_line(self.marks.as_mut_slice(), line, Change::Flush);
+        change_line(
+            self.cells.as_mut_slice(),
+            line,
+            &|_, cell: Cell| cell.flushed(),
+        );
     }
 
     /// Settles the flushed words. A line that still holds a waiting word keeps its age.
@@ -45,13 +52,13 @@ impl Words {
         ensures { Became self.old.supply (nvm_makes Fence) (filter (is_unsettled_line (λ w. nvm_makes Fence w ((meant self.old).piece w))) (unsettled_lines self.old)) self.old self.new }
     {
         change_lines(
-            self.marks.as_mut_slice(),
+            self.cells.as_mut_slice(),
             self.pending.as_slice(),
-            Change::Fence,
+            &|_, cell: Cell| cell.fenced(),
         );
         note_lines(
             self.holds.as_mut_slice(),
-            self.marks.as_slice(),
+            self.cells.as_slice(),
             self.pending.as_slice(),
         );
         self.pending.retain(self.holds.as_slice());

@@ -1,34 +1,34 @@
--- What the two memories are: their meaning with the acts that are left, and the unsettled lines by age. Assumes nothing.
-use Rattle.std.specs.Prelude.{◌≡◌, ℕ, ◌-◌, false, List, length, drop}
+-- What the memories are: their meaning with the acts that are left, and the unsettled lines by age. Assumes nothing.
+use Rattle.std.specs.Prelude.{◌≡◌, ℕ, false, List, Option}
 use Rattle.device.specs.Words.{NvmMeaning, WordMark}
 use Rattle.simulated.specs.Natures.{Simulated}
 use Rattle.nvm_words.specs.declared.mark.Mark.{Mark}
 use Rattle.nvm_words.specs.Meant.{simulated_nvm, unsettled_lines}
 use Rattle.nvm_words.specs.Made.{units_in, made_word, made_lines}
-use Rattle.nvms.specs.declared.devices.PatientNvm.{PatientNvm}
-use Rattle.nvms.specs.declared.devices.EightLineNvm.{EightLineNvm}
-use Rattle.nvms.specs.Natures.{surplus_settled}
+use Rattle.nvms.specs.declared.devices.SimulatedNvm.{SimulatedNvm}
+use Rattle.nvms.specs.Natures.{surplus_settled, surplus_left}
 
-abbrev pub patient_state : PatientNvm → Simulated WordMark ℕ
-patient_state n = simulated_nvm n.words
+abbrev pub nvm_state : {N : Type 0} {g : _} → SimulatedNvm N g → Simulated WordMark ℕ
+nvm_state n = simulated_nvm n.words
 
-abbrev pub patient_meaning : PatientNvm → NvmMeaning
-patient_meaning n = (patient_state n).meaning
+abbrev pub nvm_meaning : {N : Type 0} {g : _} → SimulatedNvm N g → NvmMeaning
+nvm_meaning n = (nvm_state n).meaning
 
-abbrev pub eight_line_state : EightLineNvm → Simulated WordMark ℕ
-eight_line_state n = simulated_nvm n.words
+-- the same of the patient memory
+abbrev pub patient_state : {N : Type 0} {g : _} → SimulatedNvm N g → Simulated WordMark ℕ
+patient_state n = nvm_state n
 
-abbrev pub eight_line_meaning : EightLineNvm → NvmMeaning
-eight_line_meaning n = (eight_line_state n).meaning
+abbrev pub patient_meaning : {N : Type 0} {g : _} → SimulatedNvm N g → NvmMeaning
+patient_meaning n = nvm_meaning n
 
 -- the lines that hold an unsettled word, the one that became so earliest first
-abbrev pub lines_by_age : EightLineNvm → List ℕ
+abbrev pub lines_by_age : {N : Type 0} {g : _} → SimulatedNvm N g → List ℕ
 lines_by_age n = unsettled_lines n.words
 
--- made of lists: what they say, but of more than eight unsettled lines the lowest settle at once; ages ascend
-pub record EightLineMade (ss ps : List ℕ) (ms : List Mark) (acts : ℕ) (n : EightLineNvm) : Type 0 where
-  pub state : eight_line_state n ≡ record {
-    meaning = record { size = units_in ss ps ms; dark = false; piece = λ w. surplus_settled (made_lines ss ps ms) w (made_word ss ps ms w) };
+-- made of lists: what they say, but of more unsettled lines than the limit allows the lowest settle at once; ages ascend
+pub record NvmMade {N : Type 0} {g : _} (limit : Option ℕ) (ss ps : List ℕ) (ms : List Mark) (acts : ℕ) (n : SimulatedNvm N g) : Type 0 where
+  pub state : nvm_state n ≡ record {
+    meaning = record { size = units_in ss ps ms; dark = false; piece = λ w. surplus_settled limit (made_lines ss ps ms) w (made_word ss ps ms w) };
     left = acts;
   }
-  pub lines : lines_by_age n ≡ drop (length (made_lines ss ps ms) - 8) (made_lines ss ps ms)
+  pub lines : lines_by_age n ≡ surplus_left limit (made_lines ss ps ms)

@@ -1,7 +1,7 @@
 //! The two simulated non-volatile memories: a patient one and one that keeps at most eight lines unsettled.
 #![tactic(auto)]
 
+pub mod acts;
 pub mod devices;
-pub mod eight_line;
-pub mod patient;
+pub mod nature;
 mod room;

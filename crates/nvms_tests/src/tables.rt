@@ -1,7 +1,8 @@
 //! Acts on a memory, and what stands after them.
 use device::nvm::Nvm;
 use nvm_words::mark::Mark;
-use nvms::devices::{EightLineNvm, PatientNvm};
+use nvms::devices::SimulatedNvm;
+use nvms::nature::Nature;
 use refusal::reason::Refusal;
 use std::process::Abort;
 
@@ -37,13 +38,7 @@ pub trait Simulation: Nvm {
     fn look(&self, word: usize) -> Look;
 }
 
-impl Simulation for PatientNvm {
-    fn look(&self, word: usize) -> Look {
-        seen(self.present(word), self.settled(word), self.mark(word))
-    }
-}
-
-impl Simulation for EightLineNvm {
+impl<N: Nature> Simulation for SimulatedNvm<N> {
     fn look(&self, word: usize) -> Look {
         seen(self.present(word), self.settled(word), self.mark(word))
     }

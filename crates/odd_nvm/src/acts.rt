@@ -1,10 +1,9 @@
 //! What the buffered memory does, held to the contract of every NVM.
-ghost use Rattle.std.specs.Prelude.{◌≡◌, ◌*◌, ◌/◌, false, vec_len, slice_index};
-ghost use Rattle.odd_nvm.specs.Buffers.{buffered_meaning, holds_word};
-ghost use Rattle.odd_nvm.specs.Buffered.{beyond};
-ghost use Rattle.std.proofs.Common.{rules, arith};
+ghost use Rattle.std.specs.Prelude.{◌≡◌, ◌/◌, false, vec_len, slice_index};
+ghost use Rattle.odd_nvm.specs.Buffers.{buffered_meaning, is_held};
+ghost use Rattle.odd_nvm.specs.Buffered.{fits, beyond};
 
-use crate::devices::BufferedNvm;
+use crate::devices::{BufferedNvm, Held};
 use device::comeback::Comeback;
 use device::nvm::Nvm;
 use refusal::reason::Refusal;
@@ -14,34 +13,30 @@ impl BufferedNvm {
     pub fn new(mut words: Vec<u64>) -> BufferedNvm
         ensures { (buffered_meaning result).size ≡ vec_len words / 32 }
     {
-        let units = words.len() / 32;
-        words.truncate(32 * units);
+        words.truncate(words.len() / 32 * 32);
         BufferedNvm {
-            units,
             words,
-            waits: false,
-            last: 0,
-            old: 0,
+            buffer: None,
         }
     }
 
     /// Whether a word is unsettled.
     fn holds(&self, word: usize) -> bool
-        ensures { result ≡ holds_word self.entry.now word }
+        ensures { result ≡ is_held self.now.buffer word }
     {
-        self.waits && self.last == word
+        self.buffer.is_some_and(|held| held.word == word)
     }
 }
 
 impl Nvm for BufferedNvm {
     ghost meaning = { buffered_meaning };
 
-    ghost fits = { first_of (Prim.search rules, Prim.grind (arith, Self.row.coded.inj)) };
+    ghost fits = { λ n. fits n };
 
-    ghost ends = { λ n w far. beyond n.waits n.last w (32 * n.units) n.old (slice_index n.words.items w) n.near far };
+    ghost ends = { λ n w far. beyond n w far };
 
     fn units(&self) -> usize {
-        self.units
+        self.words.len() / 32
     }
 
     fn is_dark(&self) -> bool {
@@ -49,22 +44,15 @@ impl Nvm for BufferedNvm {
     }
 
     fn load(&self, word: usize) -> Result<u64, Refusal> {
-        if word >= self.words.len() {
-            return Err(Refusal::Beyond);
-        }
-        Ok(self.words[word])
+        self.words.get(word).copied().ok_or(Refusal::Beyond)
     }
 
     fn store(&mut self, word: usize, value: u64) -> Result<(), Refusal> {
-        if word >= self.words.len() {
-            return Err(Refusal::Beyond);
-        }
+        let old = self.load(word)?;
         if self.holds(word) {
             return Err(Refusal::Unsettled);
         }
-        self.waits = true;
-        self.last = word;
-        self.old = self.words[word];
+        self.buffer = Some(Held { word, old });
         self.words[word] = value;
         Ok(())
     }
@@ -73,9 +61,7 @@ impl Nvm for BufferedNvm {
         if line >= self.words.len() / 8 {
             return Err(Refusal::Beyond);
         }
-        if self.last / 8 == line {
-            self.waits = false;
-        }
+        self.buffer = self.buffer.filter(|held| held.word / 8 != line);
         Ok(())
     }
 
@@ -84,9 +70,8 @@ impl Nvm for BufferedNvm {
     }
 
     fn restart(&mut self, _how: &Comeback, _acts: u64) {
-        if self.waits {
-            self.words[self.last] = self.old;
-            self.waits = false;
+        if let Some(Held { word, old }) = self.buffer.take() {
+            self.words[word] = old;
         }
     }
 }

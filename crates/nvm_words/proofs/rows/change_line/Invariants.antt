@@ -1,7 +1,7 @@
-use Rattle.std.proofs.Common.{◌*◌}
-use Rattle.nvm_words.specs.declared.mark.Mark.TheVariants.{Settled}
-use Rattle.nvm_words.specs.Marks.{changed_mark, Within}
+use Rattle.std.proofs.Common.{ℕ, ◌*◌}
+use Rattle.device.specs.Words.{Word}
+use Rattle.nvm_words.specs.Cells.{Makes, Within}
 use Rattle.nvm_words.proofs.rows.change_line.Given as goal
 
-abbrev pub invariant-loop-i : goal.invariant-loop-i
-invariant-loop-i l = Within Settled (8 * l.line) l.i (λ _. changed_mark l.change) l.initial.marks l.marks
+abbrev pub invariant-loop-word : goal.invariant-loop-word
+invariant-loop-word g l = (makes : ℕ → Word → Word) → Makes (goal.F-post g l.change) makes → Within (8 * l.line) l.word makes l.initial.cells l.cells

@@ -1,7 +1,7 @@
-use Rattle.std.proofs.Common.{take}
-use Rattle.nvm_words.specs.declared.mark.Mark.TheVariants.{Settled}
-use Rattle.nvm_words.specs.Marks.{changed_mark, Among}
+use Rattle.std.proofs.Common.{ℕ, take}
+use Rattle.device.specs.Words.{Word}
+use Rattle.nvm_words.specs.Cells.{Makes, Steady, Among}
 use Rattle.nvm_words.proofs.rows.change_lines.Given as goal
 
-abbrev pub invariant-loop-i : goal.invariant-loop-i
-invariant-loop-i l = Among Settled (take l.i l.lines) (λ _. changed_mark l.change) l.initial.marks l.marks
+abbrev pub invariant-loop-line : goal.invariant-loop-line
+invariant-loop-line g l = (makes : ℕ → Word → Word) → Makes (goal.F-post g l.change) makes → Steady makes → Among (take l.line-index l.lines) makes l.initial.cells l.cells

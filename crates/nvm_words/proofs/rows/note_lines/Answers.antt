@@ -1,7 +1,7 @@
 use Rattle.std.proofs.Common.{◌≡◌, ℕ, ◌+◌, ◌<◌, Bool, true, false, ◌||◌, eqb, List, [], length, get_or, take, set, sym, refl, ap, ◌∙◌, inl, inr, arith}
 use Rattle.std.proofs.lemmas.Bool.{cases_eq}
 use Rattle.std.proofs.lemmas.Bool.Decides.{nat_tests}
-use Rattle.std.proofs.lemmas.List.{get_or-set_same, get_or-set_other, take_all}
+use Rattle.std.proofs.lemmas.List.{get_or-set_same, get_or-set_other}
 use Rattle.simulated.specs.Lists.{member}
 use Rattle.simulated.proofs.Members.{no_true}
 use Rattle.nvm_words.proofs.Lines.{member_take}
@@ -24,11 +24,10 @@ more f xs holds i v lt room is h b m = elim (cases_eq b (get_or xs i 0)) [
     other true s e q = refl
     other false s e q = no_true s e q
 
-pub loop-i-init : goal.loop-i-init
-loop-i-init c = λ b e. none b _ e
+pub loop-line-init : goal.loop-line-init
+loop-line-init c = λ b e. none b _ e
 
-pub loop-i-preserved : goal.loop-i-preserved
-loop-i-preserved c = more _ c.args.lines.now c.loop-i.holds c.loop-i.i c.any_unsettled.result (omega arith) (omega (arith, c.requires.1 c.loop-i.i (omega arith))) c.any_unsettled.ensures c.loop-i.invariant
-
-pub returns : goal.returns
-returns c = λ b m. c.loop-i.invariant b (ap (member b) (take_all c.loop-i.i c.args.lines.now (omega arith)) ∙ m)
+pub loop-line-preserved : goal.loop-line-preserved
+loop-line-preserved c =
+    let step = c.loop-line in
+    more _ c.args.lines.now step.holds step.line-index c.any_unsettled.result (omega arith) (omega (arith, c.requires.room step.line-index (omega arith))) c.any_unsettled.ensures step.invariant

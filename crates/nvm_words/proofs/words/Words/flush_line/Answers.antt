@@ -1,16 +1,17 @@
-use Rattle.std.proofs.Common.{sym, refl, ◌∙◌}
-use Rattle.nvm_words.specs.declared.mark.Change.TheVariants.{Flush}
-use Rattle.nvm_words.proofs.Contents.{within_words, flush_lines, lent_line}
+use Rattle.std.proofs.Common.{rules, sym, refl, ◌∙◌}
+use Rattle.device.specs.Words.{flushed_word}
+use Rattle.nvm_words.proofs.Lines.{lent_line, within_line}
+use Rattle.nvm_words.proofs.Contents.{flush_lines}
 use Rattle.nvm_words.proofs.words.Words.flush_line.Goals as goal
 
 pub invariant_of-self : goal.invariant_of-self
 invariant_of-self c =
     let n = c.args.self.now in
-    let changed = lent_line n.marks c.as_mut_slice.result.now c.change_line.new.marks c.args.line Flush c.as_mut_slice.ensures.value c.change_line.auto.marks c.change_line.ensures in
-    record { settled_long = n.settled_long; present_long = n.present_long; marks_long = n.marks_long; holds_long = n.holds_long; covers = n.covers; exact = (λ l. n.exact l ∙ sym (flush_lines n.marks.items _ c.args.line changed l)) }
+    let changed = lent_line n.cells c.as_mut_slice.result.now c.change_line.new.cells c.as_mut_slice.ensures.value c.change_line.auto.cells (λ _. flushed_word) c.args.line (c.change_line.ensures (λ _. flushed_word) (λ w d r p. search rules)) in
+    record { cells_long = n.cells_long; holds_long = n.holds_long; covers = n.covers; exact = λ l. n.exact l ∙ sym (flush_lines n.cells.items _ c.args.line changed l) }
 
 pub returns : goal.returns
 returns c =
     let n = c.args.self.now in
-    let changed = lent_line n.marks c.as_mut_slice.result.now c.change_line.new.marks c.args.line Flush c.as_mut_slice.ensures.value c.change_line.auto.marks c.change_line.ensures in
-    record { size = refl; power = refl; words = within_words n.settled.items n.present.items n.marks.items _ Flush c.args.line changed; lines = refl }
+    let changed = lent_line n.cells c.as_mut_slice.result.now c.change_line.new.cells c.as_mut_slice.ensures.value c.change_line.auto.cells (λ _. flushed_word) c.args.line (c.change_line.ensures (λ _. flushed_word) (λ w d r p. search rules)) in
+    record { size = refl; power = refl; words = within_line (λ _. flushed_word) n.cells.items _ c.args.line changed; lines = refl }
