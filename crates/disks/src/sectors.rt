@@ -8,6 +8,8 @@ use device::comeback::Comeback;
 use simulated::rows::set_marks;
 use simulated::taking::takes_new;
 
+// Kept: functions over rows and no methods of a struct that holds them, since `list_marked` has the marks alone, before there is a disk.
+
 /// Whether one of a block's sectors waits.
 pub(crate) fn any_waits(waiting: &[bool], block: usize) -> bool
     requires { 8 * block + 8 ≤ length waiting.now }
@@ -74,8 +76,7 @@ pub(crate) fn revert_block(
     requires { (512 * block + 512 ≤ length settled.now) × ((512 * block + 512 ≤ length present.old) × (8 * block + 8 ≤ length waiting.now)) }
     ensures { (w : ℕ) → slice_index present.new w ≡ (if nat_eq (w / 512) block && goes_back waiting.now how.now (w / 64) then slice_index settled.now w else slice_index present.old w) }
 {
-    for k in 0..8 {
-        let sector = 8 * block + k;
+    for sector in 8 * block..8 * block + 8 {
         if goes_back(waiting, how, sector) {
             revert_sector(settled, present, sector);
         }
