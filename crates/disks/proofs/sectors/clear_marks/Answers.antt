@@ -1,6 +1,5 @@
-use Rattle.std.proofs.Common.{◌≡◌, ℕ, ◌+◌, ◌*◌, ◌/◌, false, cond, eqb, List, get_or, take, refl, ap, ◌∙◌, arith}
+use Rattle.std.proofs.Common.{◌≡◌, ℕ, ◌+◌, ◌*◌, ◌/◌, false, cond, eqb, get_or, take, refl, ap, ◌∙◌, arith}
 use Rattle.std.proofs.lemmas.Bool.Decides.{nat_tests}
-use Rattle.std.proofs.lemmas.List.{take_all}
 use Rattle.simulated.specs.Lists.{inside, member}
 use Rattle.disks.proofs.Regions.{grown, member_more}
 use Rattle.disks.proofs.sectors.clear_marks.Goals as goal
@@ -20,7 +19,3 @@ loop-block-preserved c s =
     let base = get_or c.args.waiting.now s false in
     c.set_marks.ensures s ∙ ap (λ t. cond t false (get_or c.loop-block.waiting s false)) (in_block b s)
     ∙ grown (member (s / 8) (take i queue)) (eqb (s / 8) b) false base (get_or c.loop-block.waiting s false) (c.loop-block.invariant s) ∙ ap (λ t. cond t false base) (member_more (s / 8) queue i (omega arith))
-
-pub returns : goal.returns
-returns c s =
-    c.loop-block.invariant s ∙ ap (λ (xs : List ℕ). cond (member (s / 8) xs) false (get_or c.args.waiting.now s false)) (take_all c.loop-block.block-index c.args.queue.now (omega arith))

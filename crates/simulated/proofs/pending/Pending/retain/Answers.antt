@@ -2,16 +2,14 @@ use Rattle.std.proofs.Common.{◌≡◌, ℕ, Bool, true, false, cond, List, get
 use Rattle.std.proofs.lemmas.Fn.{filter_same}
 use Rattle.simulated.specs.Lists.{member, distinct}
 use Rattle.simulated.proofs.Members.{member_kept, distinct_kept}
-use Rattle.simulated.proofs.Flags.{listed_within}
+use Rattle.simulated.proofs.Flags.{listed_below}
 use Rattle.simulated.proofs.Lent.{lent_at}
 use Rattle.simulated.proofs.pending.Pending.retain.Goals as goal
 
 pub reflag-requires : goal.reflag-requires
 reflag-requires c =
     let p = c.args.self.now in (
-      (λ k l.
-          let e : get_or c.as_slice.result.now k 0 ≡ get_or p.queue.items k 0 = ap (λ (xs : List ℕ). get_or xs k 0) c.as_slice.ensures.value in
-          omega (arith, listed_within p.flags.items p.queue.items p.flagged k (omega (arith, c.as_slice.ensures.len, p.queue.ok.0)), c.as_mut_slice.ensures.len, p.flags.ok.0, e)),
+      (λ k l. omega (arith, listed_below p c.as_slice.result.now c.as_slice.ensures.value k l, c.as_mut_slice.ensures.len, p.long)),
       omega (arith, c.requires, c.as_mut_slice.ensures.len, p.long),
     )
 
