@@ -30,12 +30,6 @@ and_false : (t : Bool) → false ≡ (t && false)
 and_false true = refl
 and_false false = refl
 
-pub loop-sector-init : goal.loop-sector-init
-loop-sector-init c w =
-    let b = c.args.block in
-    let none : inside (8 * b) (8 * b) (w / 64) ≡ false = grind (arith, nat_tests) in
-    sym (ap (λ t. cond (t && goes_back c.args.waiting.now c.args.how.now (w / 64)) (get_or c.args.settled.now w 0) (get_or c.args.present.now w 0)) none)
-
 pub loop-sector-preserved : goal.loop-sector-preserved
 loop-sector-preserved c w =
     let p = goes_back c.args.waiting.now c.args.how.now in
@@ -54,8 +48,3 @@ loop-sector-preserved c w =
 -- all eight sectors are the block's
 whole : (b k w : ℕ) → k ≡ 8 * b + 8 → inside (8 * b) k (w / 64) ≡ eqb (w / 512) b
 whole b k w e = let q : w / 64 / 8 ≡ w / 512 = omega arith in grind (arith, nat_tests)
-
-pub returns : goal.returns
-returns c w =
-    c.loop-sector.invariant w ∙ ap (λ t. cond (t && goes_back c.args.waiting.now c.args.how.now (w / 64)) (get_or c.args.settled.now w 0) (get_or c.args.present.now w 0))
-    (whole c.args.block c.loop-sector.sector w (omega arith))
