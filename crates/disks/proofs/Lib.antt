@@ -1,2 +1,3 @@
 pub mod Regions
 pub mod Promptly
+pub mod Parted

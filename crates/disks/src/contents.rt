@@ -9,6 +9,7 @@ use simulated::supply::Supply;
 /// Blocks of 512 words with their power: the present words, the settled words of the sectors that wait, a mark for each
 /// sector that waits, and the list of the blocks that may have one. The settled words of a sector that does not wait are not
 /// read.
+// Kept: with a struct for each sector `new` would have to copy the rows that it takes over, and a block would be eight copies.
 #[derive(Drop)]
 pub struct Contents {
     pub(crate) blocks: usize,

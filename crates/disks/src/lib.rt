@@ -9,3 +9,5 @@ pub mod making;
 pub mod patient;
 pub mod prompt;
 pub mod sectors;
+pub mod settling;
+pub mod simulation;

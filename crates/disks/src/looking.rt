@@ -9,33 +9,25 @@ impl Contents {
     pub fn present(&self, word: usize) -> Option<u64>
         ensures { result ≡ present_at (disk_state self.now) word }
     {
-        if word >= self.present.len() {
-            return None;
-        }
-        Some(self.present[word])
+        self.present.get(word).copied()
     }
 
     /// The settled value of a word.
     pub fn settled(&self, word: usize) -> Option<u64>
         ensures { result ≡ settled_at (disk_state self.now) word }
     {
-        if word >= self.settled.len() {
-            return None;
+        if *self.waiting.get(word / 64)? {
+            self.settled.get(word).copied()
+        } else {
+            self.present.get(word).copied()
         }
-        if self.waiting[word / 64] {
-            return Some(self.settled[word]);
-        }
-        Some(self.present[word])
     }
 
     /// Whether a sector waits.
     pub fn waits(&self, sector: usize) -> Option<bool>
         ensures { result ≡ waits_at (disk_state self.now) sector }
     {
-        if sector >= self.waiting.len() {
-            return None;
-        }
-        Some(self.waiting[sector])
+        self.waiting.get(sector).copied()
     }
 
     /// How many more acts are performed.

@@ -13,6 +13,7 @@ use simulated::supply::Supply;
 use std::alloc::Global;
 
 /// Lists each block that has a mark.
+// Kept: a block is looked at and listed by its number; chunks of marks with their numbers would be no plainer.
 fn list_marked(pending: &mut Pending, waiting: &[bool])
     requires { length waiting.now ≡ 8 * pending.old.size }
     ensures size { pending.new.size ≡ pending.old.size }
@@ -58,18 +59,10 @@ impl Contents {
     pub(crate) fn zeroed(heap: Global, blocks: usize, acts: u64) -> Result<Contents, Refusal>
         ensures { MatchResult result (λ d. disk_state d ≡ blank blocks acts) (λ e. e ≡ NoMemory) }
     {
-        let Some(words) = blocks.checked_mul(512) else {
-            return Err(Refusal::NoMemory);
-        };
-        let Ok(settled) = vec![in heap; 0; words] else {
-            return Err(Refusal::NoMemory);
-        };
-        let Ok(present) = vec![in heap; 0; words] else {
-            return Err(Refusal::NoMemory);
-        };
-        let Ok(waiting) = vec![in heap; false; 8 * blocks] else {
-            return Err(Refusal::NoMemory);
-        };
+        let words = blocks.checked_mul(512).ok_or(Refusal::NoMemory)?;
+        let settled = vec![in heap; 0; words].map_err(|_| Refusal::NoMemory)?;
+        let present = vec![in heap; 0; words].map_err(|_| Refusal::NoMemory)?;
+        let waiting = vec![in heap; false; 8 * blocks].map_err(|_| Refusal::NoMemory)?;
         Contents::new(heap, settled, present, waiting, acts)
     }
 }

@@ -1,100 +1,28 @@
 //! The prompt disk: it settles every sector at every write.
-ghost use Rattle.std.specs.Prelude.{◌≡◌, false, MatchResult};
-ghost use Rattle.std.proofs.Common.{◌∙◌, arith, rules};
-ghost use Rattle.refusal.specs.declared.reason.Refusal.TheVariants.{NoMemory};
-ghost use Rattle.device.specs.Devices.{Acted, Restarted};
-ghost use Rattle.device.specs.Sectors.{Write, Sync, disk_rules};
-ghost use Rattle.simulated.specs.Natures.{returned};
-ghost use Rattle.disks.specs.State.{disk_state, made_of, blank, ActsBy, prompt};
-ghost use Rattle.std.proofs.lemmas.List.{get_or_past};
-ghost use Rattle.disks.specs.Parts.{waits_of};
+ghost use Rattle.std.proofs.Common.{refl, inr};
+ghost use Rattle.disks.specs.State.{prompt};
 
 use crate::contents::Contents;
-use device::comeback::Comeback;
-use device::disk::Disk;
+use crate::settling::Settling;
+use crate::simulation::SimulatedDisk;
 use refusal::reason::Refusal;
-use std::alloc::Global;
 
-/// A simulated disk that settles every sector at every write, the ones just written included.
-#[derive(Drop)]
-pub struct PromptDisk {
-    contents: Contents,
-}
+/// Every sector is settled at every write, the ones just written included.
+pub struct AtWrites;
 
-impl PromptDisk {
-    /// A disk of the whole blocks in the shortest of the lists, which goes dark at the first act after `acts` performed ones. A
-    /// sector that is not marked as waiting is settled at its present words.
-    pub fn new(
-        heap: Global,
-        settled: Vec<u64>,
-        present: Vec<u64>,
-        waiting: Vec<bool>,
-        acts: u64,
-    ) -> Result<PromptDisk, Refusal>
-        ensures { MatchResult result (λ d. disk_state d.contents ≡ made_of settled.items present.items waiting.items acts) (λ e. e ≡ NoMemory) }
-    {
-        let contents = Contents::new(heap, settled, present, waiting, acts)?;
-        Ok(PromptDisk { contents })
-    }
+impl Settling for AtWrites {
+    ghost makes = { prompt };
 
-    /// A disk of zeros, all settled.
-    pub fn zeroed(heap: Global, blocks: usize, acts: u64) -> Result<PromptDisk, Refusal>
-        ensures { MatchResult result (λ d. disk_state d.contents ≡ blank blocks acts) (λ e. e ≡ NoMemory) }
-    {
-        let contents = Contents::zeroed(heap, blocks, acts)?;
-        Ok(PromptDisk { contents })
-    }
+    ghost settles = { λ a s c. inr refl };
 
-    /// What it holds, for tests and tools to look into.
-    pub fn contents(&self) -> &Contents
-        ensures { result.now ≡ self.now.contents }
-    {
-        &self.contents
-    }
-}
+    ghost syncs = { refl };
 
-impl Disk for PromptDisk {
-    ghost meaning = { λ d. (disk_state d.contents).meaning };
-
-    ghost comes = { λ s how acts t. disk_state t.contents ≡ returned how acts (disk_state s.contents) };
-
-    ghost fits = { Prim.search rules };
-
-    ghost ends = { λ d i far. waits_of _ _ _ ∙ get_or_past d.contents.waiting.items i false (omega (arith, d.contents.waiting.ok.0, d.contents.eights)) };
-
-    fn blocks(&self) -> usize {
-        self.contents.blocks
-    }
-
-    fn is_dark(&self) -> bool {
-        self.contents.supply.is_dark()
-    }
-
-    fn read(&self, block: usize, buf: &mut [u64; 512]) -> Result<(), Refusal> {
-        self.contents.read(block, buf)
-    }
-
-    fn write(&mut self, block: usize, buf: &[u64; 512]) -> Result<(), Refusal>
-        ensures acted { Acted disk_rules (disk_state self.old.contents).meaning (Write block buf.now) result (disk_state self.new.contents).meaning }
-        ensures nature { ActsBy (prompt (Write block buf.now)) (disk_state self.old.contents) (Write block buf.now) result (disk_state self.new.contents) }
-    {
-        self.contents.write(block, buf)?;
-        self.contents.settle();
+    fn write(contents: &mut Contents, block: usize, buf: &[u64; 512]) -> Result<(), Refusal> {
+        contents.write(block, buf)?;
+        contents.settle();
         Ok(())
     }
-
-    fn sync(&mut self) -> Result<(), Refusal>
-        ensures acted { Acted disk_rules (disk_state self.old.contents).meaning Sync result (disk_state self.new.contents).meaning }
-        ensures nature { ActsBy (prompt Sync) (disk_state self.old.contents) Sync result (disk_state self.new.contents) }
-    {
-        self.contents.sync()
-    }
-
-    fn restart(&mut self, how: &Comeback, acts: u64)
-        ensures restarted { Restarted (disk_state self.old.contents).meaning (disk_state self.new.contents).meaning }
-        ensures asked { disk_state self.new.contents ≡ returned how.now acts (disk_state self.old.contents) }
-        ensures comeback { disk_state self.new.contents ≡ returned how.now acts (disk_state self.old.contents) }
-    {
-        self.contents.restart(how, acts);
-    }
 }
+
+/// A simulated disk that settles every sector at every write, the ones just written included.
+pub type PromptDisk = SimulatedDisk<AtWrites>;

@@ -8,17 +8,14 @@ use device::comeback::Comeback;
 use simulated::rows::set_marks;
 use simulated::taking::takes_new;
 
+// Kept: functions over rows and no methods of a struct that holds them, since `list_marked` has the marks alone, before there is a disk.
+
 /// Whether one of a block's sectors waits.
 pub(crate) fn any_waits(waiting: &[bool], block: usize) -> bool
     requires { 8 * block + 8 ≤ length waiting.now }
     ensures { result ≡ any_below (λ k. get_or waiting.now (8 * block + k) false) 8 }
 {
-    for k in 0..8 {
-        if waiting[8 * block + k] {
-            return true;
-        }
-    }
-    false
+    waiting[8 * block..8 * block + 8].contains(&true)
 }
 
 /// Takes the marks of each listed block away.
@@ -26,9 +23,8 @@ pub(crate) fn clear_marks(waiting: &mut [bool], queue: &[usize])
     requires { (k : ℕ) → k < length queue.now → 8 * slice_index queue.now k + 8 ≤ length waiting.old }
     ensures { (s : ℕ) → slice_index_or waiting.new s false ≡ (if member (s / 8) queue.now then false else slice_index_or waiting.old s false) }
 {
-    for i in 0..queue.len() {
-        let block = queue[i];
-        set_marks(waiting, 8 * block, 8 * block + 8, false);
+    for block in queue {
+        set_marks(waiting, 8 * *block, 8 * *block + 8, false);
     }
 }
 
@@ -39,10 +35,8 @@ pub(crate) fn renew(settled: &mut [u64], present: &mut [u64], block: usize, buf:
     ensures present { (w : ℕ) → slice_index present.new w ≡ (if nat_eq (w / 512) block then slice_index buf.now (w - 512 * block) else slice_index present.old w) }
 {
     let from = 512 * block;
-    for j in 0..512 {
-        settled[from + j] = present[from + j];
-        present[from + j] = buf[j];
-    }
+    settled[from..from + 512].copy_from_slice(&present[from..from + 512]);
+    present[from..from + 512].copy_from_slice(buf);
 }
 
 /// Copies a block's words into a buffer.
@@ -51,9 +45,7 @@ pub(crate) fn copy_out(words: &[u64], block: usize, buf: &mut [u64; 512])
     ensures { (j : ℕ) → j < 512 → slice_index buf.new j ≡ slice_index words.now (512 * block + j) }
 {
     let from = 512 * block;
-    for j in 0..512 {
-        buf[j] = words[from + j];
-    }
+    buf.copy_from_slice(&words[from..from + 512]);
 }
 
 /// Gives a sector its settled words again.
@@ -62,9 +54,7 @@ pub(crate) fn revert_sector(settled: &[u64], present: &mut [u64], sector: usize)
     ensures { (w : ℕ) → slice_index present.new w ≡ (if nat_eq (w / 64) sector then slice_index settled.now w else slice_index present.old w) }
 {
     let from = 64 * sector;
-    for j in 0..64 {
-        present[from + j] = settled[from + j];
-    }
+    present[from..from + 64].copy_from_slice(&settled[from..from + 64]);
 }
 
 /// Whether a sector goes back to its settled words: it waits, and does not come back new.
@@ -86,8 +76,7 @@ pub(crate) fn revert_block(
     requires { (512 * block + 512 ≤ length settled.now) × ((512 * block + 512 ≤ length present.old) × (8 * block + 8 ≤ length waiting.now)) }
     ensures { (w : ℕ) → slice_index present.new w ≡ (if nat_eq (w / 512) block && goes_back waiting.now how.now (w / 64) then slice_index settled.now w else slice_index present.old w) }
 {
-    for k in 0..8 {
-        let sector = 8 * block + k;
+    for sector in 8 * block..8 * block + 8 {
         if goes_back(waiting, how, sector) {
             revert_sector(settled, present, sector);
         }
@@ -105,7 +94,7 @@ pub(crate) fn revert(
     requires { (length settled.now ≡ 64 * length waiting.now) × ((length present.old ≡ 64 * length waiting.now) × (((k : ℕ) → k < length queue.now → 8 * slice_index queue.now k + 8 ≤ length waiting.now))) }
     ensures { (w : ℕ) → slice_index present.new w ≡ (if member (w / 512) queue.now && goes_back waiting.now how.now (w / 64) then slice_index settled.now w else slice_index present.old w) }
 {
-    for i in 0..queue.len() {
-        revert_block(settled, present, waiting, how, queue[i]);
+    for block in queue {
+        revert_block(settled, present, waiting, how, *block);
     }
 }

@@ -1,27 +1,10 @@
 //! Acts on a disk, and what stands after them.
 use device::disk::Disk;
 use disks::contents::Contents;
-use disks::patient::PatientDisk;
-use disks::prompt::PromptDisk;
+use disks::settling::Settling;
+use disks::simulation::SimulatedDisk;
 use refusal::reason::Refusal;
 use std::process::Abort;
-
-/// A disk that can be looked into.
-pub trait Simulation: Disk {
-    fn held(&self) -> &Contents;
-}
-
-impl Simulation for PatientDisk {
-    fn held(&self) -> &Contents {
-        self.contents()
-    }
-}
-
-impl Simulation for PromptDisk {
-    fn held(&self) -> &Contents {
-        self.contents()
-    }
-}
 
 /// A write of a block full of one value, or a sync.
 #[derive(Clone, Copy)]
@@ -44,17 +27,15 @@ pub fn waits(present: u64, settled: u64) -> Look {
     Look(Some(present), Some(settled), Some(true))
 }
 
-/// A step, the number of its refusal or 0, and what stands then: the acts left and the first two blocks.
+/// A step, its answer, and what stands then: the acts left and the first two blocks.
 #[derive(Clone, Copy)]
-pub struct Row(pub Step, pub u32, pub u64, pub Look, pub Look);
-
-/// The number of a refusal, or 0.
-pub fn number(answer: Result<(), Refusal>) -> u32 {
-    match answer {
-        Ok(()) => 0,
-        Err(refusal) => refusal.number(),
-    }
-}
+pub struct Row(
+    pub Step,
+    pub Result<(), Refusal>,
+    pub u64,
+    pub Look,
+    pub Look,
+);
 
 /// What stands at the start of a block.
 pub fn seen(contents: &Contents, block: u8) -> Look {
@@ -66,20 +47,20 @@ pub fn seen(contents: &Contents, block: u8) -> Look {
     )
 }
 
-/// The answer to a step, as a number.
-pub fn perform<D: Disk>(disk: &mut D, step: Step) -> u32 {
+/// The answer to a step.
+pub fn perform<D: Disk>(disk: &mut D, step: Step) -> Result<(), Refusal> {
     match step {
-        Step::Write(block, value) => number(disk.write(block, &[value; 512])),
-        Step::Sync => number(disk.sync()),
+        Step::Write(block, value) => disk.write(block, &[value; 512]),
+        Step::Sync => disk.sync(),
     }
 }
 
 /// Performs the steps of a table and compares what stands after each.
-pub fn follow<D: Simulation>(rt: &impl Abort, disk: &mut D, rows: &[Row]) {
+pub fn follow<S: Settling>(rt: &impl Abort, disk: &mut SimulatedDisk<S>, rows: &[Row]) {
     for row in rows {
         assert_eq!(rt; perform(disk, row.0), row.1);
-        assert_eq!(rt; disk.held().acts_left(), row.2);
-        assert_eq!(rt; seen(disk.held(), 0), row.3);
-        assert_eq!(rt; seen(disk.held(), 1), row.4);
+        assert_eq!(rt; disk.contents().acts_left(), row.2);
+        assert_eq!(rt; seen(disk.contents(), 0), row.3);
+        assert_eq!(rt; seen(disk.contents(), 1), row.4);
     }
 }

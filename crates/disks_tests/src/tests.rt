@@ -4,6 +4,7 @@ use device::comeback::Comeback;
 use device::disk::Disk;
 use disks::patient::PatientDisk;
 use disks::prompt::PromptDisk;
+use refusal::reason::Refusal::{Beyond, Dark, Unsettled};
 use std::alloc::Global;
 use std::test::Fail;
 
@@ -11,15 +12,15 @@ use std::test::Fail;
 fn patient_settles_at_syncs(rt: HostRuntime) -> Result<(), Fail> {
     let mut disk = PatientDisk::zeroed(rt.alloc(), 2, 4)?;
     let rows = [
-        Row(Step::Write(0, 7), 0, 3, waits(7, 0), still(0)),
-        Row(Step::Write(0, 8), 2, 3, waits(7, 0), still(0)),
-        Row(Step::Write(2, 8), 1, 3, waits(7, 0), still(0)),
-        Row(Step::Write(1, 9), 0, 2, waits(7, 0), waits(9, 0)),
-        Row(Step::Sync, 0, 1, still(7), still(9)),
-        Row(Step::Write(0, 5), 0, 0, waits(5, 7), still(9)),
-        Row(Step::Write(2, 6), 1, 0, waits(5, 7), still(9)),
-        Row(Step::Sync, 5, 0, waits(5, 7), still(9)),
-        Row(Step::Write(2, 6), 5, 0, waits(5, 7), still(9)),
+        Row(Step::Write(0, 7), Ok(()), 3, waits(7, 0), still(0)),
+        Row(Step::Write(0, 8), Err(Unsettled), 3, waits(7, 0), still(0)),
+        Row(Step::Write(2, 8), Err(Beyond), 3, waits(7, 0), still(0)),
+        Row(Step::Write(1, 9), Ok(()), 2, waits(7, 0), waits(9, 0)),
+        Row(Step::Sync, Ok(()), 1, still(7), still(9)),
+        Row(Step::Write(0, 5), Ok(()), 0, waits(5, 7), still(9)),
+        Row(Step::Write(2, 6), Err(Beyond), 0, waits(5, 7), still(9)),
+        Row(Step::Sync, Err(Dark), 0, waits(5, 7), still(9)),
+        Row(Step::Write(2, 6), Err(Dark), 0, waits(5, 7), still(9)),
     ];
     follow(&rt, &mut disk, &rows);
     Ok(())
@@ -37,10 +38,16 @@ fn prompt_settles_at_writes(rt: HostRuntime) -> Result<(), Fail> {
     )?;
     assert_eq!(rt; seen(disk.contents(), 1), waits(4, 3));
     let rows = [
-        Row(Step::Write(0, 7), 2, 2, waits(4, 3), waits(4, 3)),
-        Row(Step::Sync, 0, 1, still(4), still(4)),
-        Row(Step::Write(0, 7), 0, 0, still(7), still(4)),
-        Row(Step::Write(1, 9), 5, 0, still(7), still(4)),
+        Row(
+            Step::Write(0, 7),
+            Err(Unsettled),
+            2,
+            waits(4, 3),
+            waits(4, 3),
+        ),
+        Row(Step::Sync, Ok(()), 1, still(4), still(4)),
+        Row(Step::Write(0, 7), Ok(()), 0, still(7), still(4)),
+        Row(Step::Write(1, 9), Err(Dark), 0, still(7), still(4)),
     ];
     follow(&rt, &mut disk, &rows);
     Ok(())
@@ -64,7 +71,7 @@ fn prompt_settles_what_waited_before(rt: HostRuntime) -> Result<(), Fail> {
     follow(
         &rt,
         &mut disk,
-        &[Row(Step::Write(0, 7), 0, 0, still(7), still(4))],
+        &[Row(Step::Write(0, 7), Ok(()), 0, still(7), still(4))],
     );
     Ok(())
 }
@@ -73,13 +80,13 @@ fn prompt_settles_what_waited_before(rt: HostRuntime) -> Result<(), Fail> {
 fn refused_reads_leave_the_buffer(rt: HostRuntime) -> Result<(), Fail> {
     let mut disk = PatientDisk::zeroed(rt.alloc(), 1, 0)?;
     let mut buf = [6; 512];
-    assert_eq!(rt; number(disk.read(1, &mut buf)), 1);
+    assert_eq!(rt; disk.read(1, &mut buf), Err(Beyond));
     assert_eq!(rt; buf[0], 6);
-    assert_eq!(rt; number(disk.read(0, &mut buf)), 0);
+    assert_eq!(rt; disk.read(0, &mut buf), Ok(()));
     assert_eq!(rt; buf[511], 0);
-    assert_eq!(rt; number(disk.sync()), 5);
+    assert_eq!(rt; disk.sync(), Err(Dark));
     buf[0] = 6;
-    assert_eq!(rt; number(disk.read(1, &mut buf)), 5);
+    assert_eq!(rt; disk.read(1, &mut buf), Err(Dark));
     assert_eq!(rt; buf[0], 6);
     Ok(())
 }
@@ -89,8 +96,8 @@ fn dark_after_every_act_number(rt: HostRuntime) -> Result<(), Fail> {
     let steps = [Step::Write(0, 1), Step::Write(1, 2), Step::Sync];
     for acts in 0..4 {
         let mut disk = PatientDisk::zeroed(rt.alloc(), 2, acts)?;
-        for i in 0..3 {
-            assert_eq!(rt; perform(&mut disk, steps[i]) == 0, (i as u64) < acts);
+        for (i, step) in (0..).zip(steps) {
+            assert_eq!(rt; perform(&mut disk, step).is_ok(), i < acts);
         }
         assert_eq!(rt; disk.is_dark(), acts < 3);
     }
@@ -123,9 +130,9 @@ fn sizes_by_the_shortest_list(rt: HostRuntime) -> Result<(), Fail> {
 fn sectors_come_back_as_chosen(rt: HostRuntime) -> Result<(), Fail> {
     let heap = rt.alloc();
     let mut disk = PatientDisk::zeroed(heap, 2, 2)?;
-    assert_eq!(rt; perform(&mut disk, Step::Write(0, 7)), 0);
-    assert_eq!(rt; perform(&mut disk, Step::Write(1, 9)), 0);
-    assert_eq!(rt; perform(&mut disk, Step::Sync), 5);
+    assert_eq!(rt; perform(&mut disk, Step::Write(0, 7)), Ok(()));
+    assert_eq!(rt; perform(&mut disk, Step::Write(1, 9)), Ok(()));
+    assert_eq!(rt; perform(&mut disk, Step::Sync), Err(Dark));
     let mut chosen = vec![in heap; false; 2]?;
     chosen.extend_from_slice(&[true; 7])?;
     disk.restart(&Comeback::Chosen(chosen), 1);
@@ -134,10 +141,10 @@ fn sectors_come_back_as_chosen(rt: HostRuntime) -> Result<(), Fail> {
     assert_eq!(rt; disk.contents().present(128), Some(7));
     assert_eq!(rt; disk.contents().present(576), Some(0));
     assert_eq!(rt; disk.contents().acts_left(), 1);
-    assert_eq!(rt; perform(&mut disk, Step::Write(1, 8)), 0);
+    assert_eq!(rt; perform(&mut disk, Step::Write(1, 8)), Ok(()));
     disk.restart(&Comeback::Old, 1);
     assert_eq!(rt; seen(disk.contents(), 1), still(9));
-    assert_eq!(rt; perform(&mut disk, Step::Write(1, 8)), 0);
+    assert_eq!(rt; perform(&mut disk, Step::Write(1, 8)), Ok(()));
     disk.restart(&Comeback::New, 0);
     assert_eq!(rt; seen(disk.contents(), 1), still(8));
     Ok(())

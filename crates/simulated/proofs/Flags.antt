@@ -3,6 +3,8 @@ use Rattle.std.proofs.Common.{◌≡◌, ℕ, zero, suc, ◌+◌, ◌<◌, ◌�
 use Rattle.std.proofs.lemmas.Bool.{and_parts, not-true, cases_eq, cases_lt, ne_eqb}
 use Rattle.std.proofs.lemmas.List.{get_or-set_same, get_or-set_other, get_or_past, take_more}
 use Rattle.simulated.specs.Lists.{member, distinct}
+use Rattle.simulated.specs.Listing.{lines_of}
+use Rattle.simulated.specs.declared.pending.Pending.{Pending}
 use Rattle.simulated.proofs.Members.{no_true, at_member, member_push, or_true, or_false}
 
 -- a flag that is set lies within the row
@@ -80,6 +82,13 @@ flagged_push flags queue b lt h x = elim (cases_eq x b) [
 -- what is listed lies within the row of flags
 pub listed_within : (flags : List Bool) (queue : List ℕ) → ((x : ℕ) → get_or flags x false ≡ member x queue) → (k : ℕ) → k < length queue → get_or queue k 0 < length flags
 listed_within flags queue h k l = flag_within flags (get_or queue k 0) (h (get_or queue k 0) ∙ at_member queue k l)
+
+-- what is listed lies below the size, as the list is lent
+pub listed_below : (p : Pending) (lines : List ℕ) → lines ≡ lines_of p → (k : ℕ) → k < length lines → get_or lines k 0 < p.size
+listed_below p lines is k l =
+    let e : get_or lines k 0 ≡ get_or p.queue.items k 0 = ap (λ (xs : List ℕ). get_or xs k 0) is in
+    let long : length lines ≡ length p.queue.items = ap length is in
+    omega (arith, listed_within p.flags.items p.queue.items p.flagged k (omega (arith, long)), p.long, p.flags.ok.0, e)
 
 pub none_flagged : (n b : ℕ) → get_or (replicate n false) b false ≡ false
 none_flagged zero b = refl

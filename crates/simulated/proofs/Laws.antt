@@ -5,8 +5,7 @@ use Rattle.refusal.specs.declared.reason.Refusal.TheVariants.{Dark, Beyond, Unse
 use Rattle.device.specs.declared.comeback.Comeback.{Comeback}
 use Rattle.device.specs.Pieces.{Piece, settled, present_value, settled_value, MaySettle, ComesBack}
 use Rattle.device.specs.Devices.{Rules, darkened, refusal_of, Acted, Restarted}
-use Rattle.simulated.specs.declared.supply.Supply.{Supply}
-use Rattle.simulated.specs.Power.{spend_answer, spent}
+use Rattle.simulated.specs.Power.{Power, spend_answer, spent}
 use Rattle.simulated.specs.Natures.{Simulated, outcome_of, answer_of, state_of, performed_by, answers, becomes, takes_new, returned}
 
 -- two simulated devices are equal if all their parts are
@@ -58,7 +57,7 @@ module _ {Act Mark Value : Type 0} (rules : Rules Act Mark Value) (makes : ℕ �
 -- An act within the size and not blocked, on a device with these pieces: it asks the power p, which is q then.
 module _ {Act Mark Value : Type 0} (rules : Rules Act Mark Value) (makes : ℕ → Piece Mark Value → Piece Mark Value) (size : ℕ) (piece : ℕ → Piece Mark Value) (a : Act)
     (within : rules.beyond size a ≡ false) (free : rules.blocked piece a ≡ false) where
-  abbrev pub powered : Supply → Simulated Mark Value
+  abbrev pub powered : Power → Simulated Mark Value
   powered p = record { meaning = record { size = size; dark = p.dark; piece = piece }; left = p.left }
 
   allowed : (left : ℕ) → refusal_of rules (record { size = size; dark = false; piece = piece }) a ≡ None
@@ -67,7 +66,7 @@ module _ {Act Mark Value : Type 0} (rules : Rules Act Mark Value) (makes : ℕ �
       ∙ ap (λ t. cond t (Some Unsettled) None) free
 
   -- power does not suffice
-  pub halted : (p q : Supply) (e : Refusal) → Err e ≡ spend_answer p → q ≡ spent p → (Err e ≡ answers rules (powered p) a) × (powered q ≡ becomes rules makes (powered p) a)
+  pub halted : (p q : Power) (e : Refusal) → Err e ≡ spend_answer p → q ≡ spent p → (Err e ≡ answers rules (powered p) a) × (powered q ≡ becomes rules makes (powered p) a)
   halted p q e = by_tests p.dark p.left (eqb p.left 0) refl
     where
       by_tests : (dark : Bool) (left : ℕ) (z : Bool) → eqb left 0 ≡ z → Err e ≡ cond dark (Err Dark) (cond z (Err Dark) (Ok (tt {0})))
@@ -84,7 +83,7 @@ module _ {Act Mark Value : Type 0} (rules : Rules Act Mark Value) (makes : ℕ �
       by_tests false left false i answer after = let z : ◌≡◌ {A = ℕ} 0 1 = cc in absurd (omega arith)
 
   -- power suffices, and the device t has performed the act
-  pub performed : (p q : Supply) (u : Unit {0}) (t : Simulated Mark Value) → Ok u ≡ spend_answer p → q ≡ spent p
+  pub performed : (p q : Power) (u : Unit {0}) (t : Simulated Mark Value) → Ok u ≡ spend_answer p → q ≡ spent p
       → t.meaning.size ≡ size → t.meaning.dark ≡ q.dark → ((i : ℕ) → t.meaning.piece i ≡ makes i (piece i)) → t.left ≡ q.left
       → (Ok tt ≡ answers rules (powered p) a) × (t ≡ becomes rules makes (powered p) a)
   performed p q u t = by_tests p.dark p.left (eqb p.left 0) refl

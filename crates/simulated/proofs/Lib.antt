@@ -1,6 +1,5 @@
 pub mod Members
 pub mod Flags
-pub mod Sets
 pub mod Lent
 pub mod Laws
 pub mod Lasting

@@ -5,7 +5,7 @@ ghost use Rattle.simulated.specs.Lists.{member};
 ghost use Rattle.simulated.specs.Listing.{lines_of, with_line, without_first};
 
 use crate::pending::Pending;
-use crate::rows::{reflag, sift, unflag};
+use crate::rows::{reflag, unflag};
 use refusal::reason::Refusal;
 use std::alloc::Global;
 
@@ -14,12 +14,8 @@ impl Pending {
     pub fn new(heap: Global, size: usize) -> Result<Pending, Refusal>
         ensures { MatchResult result (λ p. (p.size ≡ size) × (lines_of p ≡ [])) (λ e. e ≡ NoMemory) }
     {
-        let Ok(flags) = vec![in heap; false; size] else {
-            return Err(Refusal::NoMemory);
-        };
-        let Ok(queue) = Vec::with_capacity(heap, size) else {
-            return Err(Refusal::NoMemory);
-        };
+        let flags = vec![in heap; false; size].map_err(|_| Refusal::NoMemory)?;
+        let queue = Vec::with_capacity(heap, size).map_err(|_| Refusal::NoMemory)?;
         Ok(Pending { size, flags, queue })
     }
 
@@ -77,7 +73,6 @@ impl Pending {
         ensures lines { lines_of self.new ≡ filter (λ b. slice_index_or keep.now b false) (lines_of self.old) }
     {
         reflag(self.flags.as_mut_slice(), self.queue.as_slice(), keep);
-        let count = sift(self.queue.as_mut_slice(), keep);
-        self.queue.truncate(count);
+        self.queue.retain(|b| matches!(keep.get(*b), Some(true)));
     }
 }

@@ -4,6 +4,7 @@ ghost use Rattle.simulated.specs.Lists.{member, distinct};
 
 /// Some of the numbers below `size`, each at most once, in the order in which they came, with room for all of them: a flag
 /// for each number, and a queue of those that are flagged.
+// Kept: the kit's set in insertion order could run out of memory at an insert, and no act may; the flags take none.
 #[derive(Drop)]
 pub struct Pending {
     pub(crate) size: usize,

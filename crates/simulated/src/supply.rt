@@ -1,14 +1,25 @@
 //! The power of a simulated device.
 ghost use Rattle.std.specs.Prelude.{◌≡◌};
-ghost use Rattle.simulated.specs.Power.{charged, spend_answer, spent};
+ghost use Rattle.std.proofs.Common.{ap};
+ghost use Rattle.simulated.specs.Power.{Power, power_of, acts_of, acts_back, charged, spend_answer, spent};
 
 use refusal::reason::Refusal;
+use std::marker::Model;
 
-/// How many more acts are performed, and whether power is gone. It goes at the first act after that many performed ones.
+/// How many more acts are performed, or none when power is gone. It goes at the first act after that many performed ones.
 #[derive(Clone, Copy)]
 pub struct Supply {
-    pub(crate) left: u64,
-    pub(crate) dark: bool,
+    acts: Option<u64>,
+}
+
+impl Model for Supply {
+    ghost Value = { Power };
+
+    ghost view = { λ s. power_of s.acts };
+
+    ghost inverse = { λ p. record { acts = acts_of p } };
+
+    ghost inverse_ok = { λ s _. ap (λ acts. record { acts = acts }) (acts_back s.acts) };
 }
 
 impl Supply {
@@ -16,24 +27,21 @@ impl Supply {
     pub fn new(acts: u64) -> Supply
         ensures { result ≡ charged acts }
     {
-        Supply {
-            left: acts,
-            dark: false,
-        }
+        Supply { acts: Some(acts) }
     }
 
     /// Whether power is gone.
     pub fn is_dark(&self) -> bool
         ensures { result ≡ self.now.dark }
     {
-        self.dark
+        self.acts.is_none()
     }
 
     /// How many more acts are performed.
     pub fn acts_left(&self) -> u64
         ensures { result ≡ self.now.left }
     {
-        self.left
+        self.acts.unwrap_or(0)
     }
 
     /// Spends one act, or turns dark if none is left.
@@ -41,22 +49,22 @@ impl Supply {
         ensures answer { result ≡ spend_answer self.old }
         ensures after { self.new ≡ spent self.old }
     {
-        if self.dark {
-            return Err(Refusal::Dark);
+        match self.acts {
+            None | Some(0) => {
+                self.acts = None;
+                Err(Refusal::Dark)
+            }
+            Some(left) => {
+                self.acts = Some(left - 1);
+                Ok(())
+            }
         }
-        if self.left == 0 {
-            self.dark = true;
-            return Err(Refusal::Dark);
-        }
-        self.left -= 1;
-        Ok(())
     }
 
     /// Power returns, for a new number of acts.
     pub fn restore(&mut self, acts: u64)
         ensures { self.new ≡ charged acts }
     {
-        self.left = acts;
-        self.dark = false;
+        self.acts = Some(acts);
     }
 }

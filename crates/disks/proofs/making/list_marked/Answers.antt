@@ -1,11 +1,10 @@
-use Rattle.std.proofs.Common.{◌≡◌, ℕ, ◌+◌, ◌*◌, ◌/◌, ◌<◌, Bool, true, false, eqb, List, get_or, sym, refl, ap, ◌∙◌, subst, inl, inr, arith, eq-eqb}
+use Rattle.std.proofs.Common.{◌≡◌, ℕ, ◌+◌, ◌*◌, ◌/◌, ◌<◌, Bool, true, false, eqb, List, get_or, sym, ap, ◌∙◌, subst, inl, inr, arith, eq-eqb}
 use Rattle.std.proofs.lemmas.Bool.{cases_eq, or_left, or_right}
 use Rattle.device.specs.Sectors.{any_below}
 use Rattle.simulated.specs.Lists.{member}
 use Rattle.simulated.specs.Listing.{lines_of, with_line}
 use Rattle.simulated.specs.declared.pending.Pending.{Pending}
 use Rattle.simulated.proofs.Members.{no_true, member_with}
-use Rattle.simulated.proofs.Flags.{flag_within}
 use Rattle.disks.specs.Parts.{none_waits}
 use Rattle.disks.proofs.making.list_marked.Goals as goal
 use Rattle.disks.proofs.making.list_marked.Goals.{then-any_waits, else-any_waits}
@@ -25,12 +24,6 @@ added ms size b p q (e, h) z lines = (
 passed : (ms : List Bool) (size b : ℕ) (p : Pending) → Listed ms size b p → any_below (λ k. get_or ms (8 * b + k) false) 8 ≡ false → Listed ms size (b + 1) p
 passed ms size b p (e, h) none = (e, λ s l m. elim (cases_eq (s / 8) b) [ inl i ↦ no_true _ (none_waits ms b none s i) m | inr ne ↦ h s (omega arith) m ])
 
-pub loop-block-init : goal.loop-block-init
-loop-block-init c = (refl, λ s l h. absurd (omega arith))
-
-pub add-requires : goal.add-requires
-add-requires c = omega (arith, c.loop-block.invariant.0, c.requires, c.loop-block-test.true)
-
 pub loop-block-preserved : goal.loop-block-preserved
 loop-block-preserved c =
     let ms = c.args.waiting.now in
@@ -40,9 +33,3 @@ loop-block-preserved c =
       | then-any_waits w ↦ subst (Listed ms size (b + 1)) (sym w.pending-is) (added ms size b c.loop-block.pending w.add.new.self c.loop-block.invariant w.add.ensures.size w.add.ensures.lines)
       | else-any_waits w ↦ subst (Listed ms size (b + 1)) (sym w.pending-is) (passed ms size b c.loop-block.pending c.loop-block.invariant (sym c.any_waits.ensures ∙ w.if-any_waits.false))
     ]
-
-pub returns : goal.returns
-returns c = record {
-  size = c.loop-block.invariant.0;
-  listed = λ s h. c.loop-block.invariant.1 s (let l = flag_within c.args.waiting.now s h in omega (arith, c.requires, c.loop-block-test.false)) h;
-}

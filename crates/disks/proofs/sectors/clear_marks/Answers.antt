@@ -1,6 +1,5 @@
-use Rattle.std.proofs.Common.{◌≡◌, ℕ, ◌+◌, ◌*◌, ◌/◌, false, cond, eqb, List, get_or, take, refl, ap, ◌∙◌, arith}
+use Rattle.std.proofs.Common.{◌≡◌, ℕ, ◌+◌, ◌*◌, ◌/◌, false, cond, eqb, get_or, take, refl, ap, ◌∙◌, arith}
 use Rattle.std.proofs.lemmas.Bool.Decides.{nat_tests}
-use Rattle.std.proofs.lemmas.List.{take_all}
 use Rattle.simulated.specs.Lists.{inside, member}
 use Rattle.disks.proofs.Regions.{grown, member_more}
 use Rattle.disks.proofs.sectors.clear_marks.Goals as goal
@@ -8,19 +7,15 @@ use Rattle.disks.proofs.sectors.clear_marks.Goals as goal
 in_block : (b s : ℕ) → inside (8 * b) (8 * b + 8) s ≡ eqb (s / 8) b
 in_block b s = grind (arith, nat_tests)
 
-pub loop-i-init : goal.loop-i-init
+pub loop-block-init : goal.loop-block-init
 unfolding member
-loop-i-init c s = refl
+loop-block-init c s = refl
 
-pub loop-i-preserved : goal.loop-i-preserved
-loop-i-preserved c s =
+pub loop-block-preserved : goal.loop-block-preserved
+loop-block-preserved c s =
     let queue = c.args.queue.now in
-    let i = c.loop-i.i in
+    let i = c.loop-block.block-index in
     let b = get_or queue i 0 in
     let base = get_or c.args.waiting.now s false in
-    c.set_marks.ensures s ∙ ap (λ t. cond t false (get_or c.loop-i.waiting s false)) (in_block b s)
-    ∙ grown (member (s / 8) (take i queue)) (eqb (s / 8) b) false base (get_or c.loop-i.waiting s false) (c.loop-i.invariant s) ∙ ap (λ t. cond t false base) (member_more (s / 8) queue i (omega arith))
-
-pub returns : goal.returns
-returns c s =
-    c.loop-i.invariant s ∙ ap (λ (xs : List ℕ). cond (member (s / 8) xs) false (get_or c.args.waiting.now s false)) (take_all c.loop-i.i c.args.queue.now (omega arith))
+    c.set_marks.ensures s ∙ ap (λ t. cond t false (get_or c.loop-block.waiting s false)) (in_block b s)
+    ∙ grown (member (s / 8) (take i queue)) (eqb (s / 8) b) false base (get_or c.loop-block.waiting s false) (c.loop-block.invariant s) ∙ ap (λ t. cond t false base) (member_more (s / 8) queue i (omega arith))

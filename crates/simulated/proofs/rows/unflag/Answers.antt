@@ -1,17 +1,12 @@
-use Rattle.std.proofs.Common.{ℕ, false, cond, List, get_or, refl, ap, ◌∙◌, arith}
-use Rattle.std.proofs.lemmas.List.{take_all}
+use Rattle.std.proofs.Common.{false, refl, arith}
 use Rattle.simulated.specs.Lists.{member}
 use Rattle.simulated.proofs.Flags.{reflag_more}
 use Rattle.simulated.proofs.rows.unflag.Goals as goal
 
-pub loop-i-init : goal.loop-i-init
+pub loop-b-init : goal.loop-b-init
 unfolding member
-loop-i-init c b = refl
+loop-b-init c b = refl
 
-pub loop-i-preserved : goal.loop-i-preserved
-loop-i-preserved c =
-    reflag_more c.args.flags.now c.loop-i.flags c.args.queue.now (λ b. false) c.loop-i.i (omega arith) (omega (arith, c.requires c.loop-i.i (omega arith))) c.loop-i.invariant
-
-pub returns : goal.returns
-returns c b =
-    c.loop-i.invariant b ∙ ap (λ (xs : List ℕ). cond (member b xs) false (get_or c.args.flags.now b false)) (take_all c.loop-i.i c.args.queue.now (omega arith))
+pub loop-b-preserved : goal.loop-b-preserved
+loop-b-preserved c =
+    reflag_more c.args.flags.now c.loop-b.flags c.args.queue.now (λ b. false) c.loop-b.b-index (omega arith) (omega (arith, c.requires c.loop-b.b-index (omega arith))) c.loop-b.invariant

@@ -30,20 +30,16 @@ invariant_of-self c =
           (λ e. d.listed s (ap (λ (xs : List Bool). get_or xs s false) (sym c.as_mut_slice-3.ensures.value) ∙ e)) h);
     }
 
-pub returns : goal.returns
-returns c =
+pub returns-clause-sectors : goal.returns-clause-sectors
+returns-clause-sectors c =
     let d = c.args.self.now in
     let b = c.args.block in
-    record {
-      size = refl;
-      supply = refl;
-      sectors = written d.settled.items d.present.items _ _ c.args.buf.now d.waiting.items _ b
-          (λ w. lent_at 0 d.settled _ _ c.as_mut_slice.ensures.value c.renew.auto.settled w ∙ c.renew.ensures.settled w
-          ∙ ap (λ (xs : List ℕ). cond (eqb (w / 512) b) (get_or xs w 0) (get_or c.as_mut_slice.result.now w 0)) c.as_mut_slice-2.ensures.value
-          ∙ ap (λ (xs : List ℕ). cond (eqb (w / 512) b) (get_or d.present.items w 0) (get_or xs w 0)) c.as_mut_slice.ensures.value)
-          (λ w. lent_at 0 d.present _ _ c.as_mut_slice-2.ensures.value c.renew.auto.present w ∙ c.renew.ensures.present w
-          ∙ ap (λ (xs : List ℕ). cond (eqb (w / 512) b) (get_or c.args.buf.now (w - 512 * b) 0) (get_or xs w 0)) c.as_mut_slice-2.ensures.value)
-          (λ s. lent_at false d.waiting _ _ c.as_mut_slice-3.ensures.value c.set_marks.auto.marks s ∙ c.set_marks.ensures s
-          ∙ ap (λ (xs : List Bool). cond (inside (8 * b) (8 * b + 8) s) true (get_or xs s false)) c.as_mut_slice-3.ensures.value)
-          (none_waits d.waiting.items b c.requires.1);
-    }
+    written d.settled.items d.present.items _ _ c.args.buf.now d.waiting.items _ b
+    (λ w. lent_at 0 d.settled _ _ c.as_mut_slice.ensures.value c.renew.auto.settled w ∙ c.renew.ensures.settled w
+    ∙ ap (λ (xs : List ℕ). cond (eqb (w / 512) b) (get_or xs w 0) (get_or c.as_mut_slice.result.now w 0)) c.as_mut_slice-2.ensures.value
+    ∙ ap (λ (xs : List ℕ). cond (eqb (w / 512) b) (get_or d.present.items w 0) (get_or xs w 0)) c.as_mut_slice.ensures.value)
+    (λ w. lent_at 0 d.present _ _ c.as_mut_slice-2.ensures.value c.renew.auto.present w ∙ c.renew.ensures.present w
+    ∙ ap (λ (xs : List ℕ). cond (eqb (w / 512) b) (get_or c.args.buf.now (w - 512 * b) 0) (get_or xs w 0)) c.as_mut_slice-2.ensures.value)
+    (λ s. lent_at false d.waiting _ _ c.as_mut_slice-3.ensures.value c.set_marks.auto.marks s ∙ c.set_marks.ensures s
+    ∙ ap (λ (xs : List Bool). cond (inside (8 * b) (8 * b + 8) s) true (get_or xs s false)) c.as_mut_slice-3.ensures.value)
+    (none_waits d.waiting.items b c.requires.1)

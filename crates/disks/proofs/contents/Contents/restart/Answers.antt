@@ -5,7 +5,7 @@ use Rattle.simulated.specs.declared.supply.Supply.{Supply}
 use Rattle.simulated.specs.Lists.{member}
 use Rattle.simulated.specs.Listing.{lines_of}
 use Rattle.simulated.specs.Natures.{returned}
-use Rattle.simulated.proofs.Flags.{listed_within}
+use Rattle.simulated.proofs.Flags.{listed_below}
 use Rattle.simulated.proofs.Lent.{lent_at}
 use Rattle.simulated.proofs.Laws.{same_state}
 use Rattle.disks.specs.Rows.{goes_back}
@@ -16,15 +16,11 @@ use Rattle.disks.proofs.contents.Contents.restart.Goals as goal
 
 pub revert-requires : goal.revert-requires
 revert-requires c =
-    let d = c.args.self.now in
-    let q = d.pending in (
+    let d = c.args.self.now in (
       omega (arith, c.as_slice.ensures.len, c.as_slice-2.ensures.len, d.olds, d.eights),
       (
         omega (arith, c.as_mut_slice.ensures.len, c.as_slice-2.ensures.len, d.news, d.eights),
-        (λ k l.
-            let e : get_or c.as_slice-3.result.now k 0 ≡ get_or q.queue.items k 0 = ap (λ (xs : List ℕ). get_or xs k 0) c.as_slice-3.ensures in
-            let long : length c.as_slice-3.result.now ≡ length q.queue.items = ap length c.as_slice-3.ensures in
-            omega (arith, listed_within q.flags.items q.queue.items q.flagged k (omega (arith, long)), c.as_slice-2.ensures.len, d.eights, d.lists, q.long, q.flags.ok.0, e)),
+        (λ k l. omega (arith, listed_below d.pending c.as_slice-3.result.now c.as_slice-3.ensures k l, c.as_slice-2.ensures.len, d.eights, d.lists)),
       ),
     )
 

@@ -1,4 +1,4 @@
-use Rattle.std.proofs.Common.{◌≡◌, ℕ, zero, suc, ◌+◌, ◌*◌, Bool, false, List, get_or, take, replicate, refl, ap, ◌∙◌, arith}
+use Rattle.std.proofs.Common.{◌≡◌, ℕ, zero, suc, ◌+◌, ◌*◌, Bool, false, List, get_or, take, replicate, refl, ap, ◌∙◌, arith, rules}
 use Rattle.std.proofs.lemmas.List.{length-replicate}
 use Rattle.std.proofs.lemmas.Result.{MatchResult-weaker}
 use Rattle.std.proofs.lemmas.Bool.{cond-false}
@@ -33,13 +33,15 @@ module _ (blocks acts n m : ℕ) (long : n ≡ 512 * blocks) (eights : m ≡ 8 *
 
 pub returns : goal.returns
 returns c =
-    let olds = c.in-Ok.ensures.items_if_clones_equal (λ y e. e) in
-    let news = c.in-Ok-vec.ensures.items_if_clones_equal (λ y e. e) in
-    let marks = c.in-Ok-vec-2.ensures.items_if_clones_equal (λ y e. e) in
+    let words = c.in_ok-words.words in
+    let long : words ≡ c.args.blocks * 512 = search rules in
+    let olds : c.in_ok-settled.settled.items ≡ replicate words 0 = search rules in
+    let news : c.in_ok-present.present.items ≡ replicate words 0 = search rules in
+    let marks : c.in_ok-waiting.waiting.items ≡ replicate (8 * c.args.blocks) false = search rules in
     MatchResult-weaker c.new.result c.new.ensures
     (λ d e. e
-    ∙ ap (λ (xs : List ℕ). made_of xs c.in-Ok-vec.present.items c.in-Ok-vec-2.waiting.items c.args.acts) olds
-    ∙ ap (λ (xs : List ℕ). made_of (replicate c.in-Some.words 0) xs c.in-Ok-vec-2.waiting.items c.args.acts) news
-    ∙ ap (λ (xs : List Bool). made_of (replicate c.in-Some.words 0) (replicate c.in-Some.words 0) xs c.args.acts) marks
-    ∙ blank_made c.args.blocks c.args.acts c.in-Some.words (8 * c.args.blocks) (omega (arith, c.in-Some.ensures)) refl)
+    ∙ ap (λ (xs : List ℕ). made_of xs c.in_ok-present.present.items c.in_ok-waiting.waiting.items c.args.acts) olds
+    ∙ ap (λ (xs : List ℕ). made_of (replicate words 0) xs c.in_ok-waiting.waiting.items c.args.acts) news
+    ∙ ap (λ (xs : List Bool). made_of (replicate words 0) (replicate words 0) xs c.args.acts) marks
+    ∙ blank_made c.args.blocks c.args.acts words (8 * c.args.blocks) (omega (arith, long)) refl)
     (λ y q. q)

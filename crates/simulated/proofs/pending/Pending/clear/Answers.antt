@@ -1,14 +1,11 @@
-use Rattle.std.proofs.Common.{◌≡◌, ℕ, Bool, true, false, cond, List, get_or, sym, ap, ◌∙◌, arith}
+use Rattle.std.proofs.Common.{◌≡◌, Bool, true, false, cond, List, get_or, sym, ap, ◌∙◌, arith}
 use Rattle.simulated.specs.Lists.{member, distinct}
-use Rattle.simulated.proofs.Flags.{listed_within}
+use Rattle.simulated.proofs.Flags.{listed_below}
 use Rattle.simulated.proofs.Lent.{lent_at}
 use Rattle.simulated.proofs.pending.Pending.clear.Goals as goal
 
 pub unflag-requires : goal.unflag-requires
-unflag-requires c k l =
-    let p = c.args.self.now in
-    let e : get_or c.as_slice.result.now k 0 ≡ get_or p.queue.items k 0 = ap (λ (xs : List ℕ). get_or xs k 0) c.as_slice.ensures.value in
-    omega (arith, listed_within p.flags.items p.queue.items p.flagged k (omega (arith, c.as_slice.ensures.len, p.queue.ok.0)), c.as_mut_slice.ensures.len, p.flags.ok.0, e)
+unflag-requires c k l = let p = c.args.self.now in omega (arith, listed_below p c.as_slice.result.now c.as_slice.ensures.value k l, c.as_mut_slice.ensures.len, p.long)
 
 -- a flag is gone if it was listed, and was not there else
 gone : (m old new : Bool) → new ≡ cond m false old → old ≡ m → new ≡ false

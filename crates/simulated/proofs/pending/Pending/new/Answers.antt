@@ -1,4 +1,4 @@
-use Rattle.std.proofs.Common.{◌≡◌, ℕ, Bool, true, false, List, [], get_or, replicate, sym, ap, ◌∙◌}
+use Rattle.std.proofs.Common.{◌≡◌, ℕ, Bool, true, false, List, [], get_or, replicate, sym, ap, ◌∙◌, rules}
 use Rattle.simulated.specs.Lists.{member, distinct}
 use Rattle.simulated.proofs.Flags.{none_flagged}
 use Rattle.simulated.proofs.pending.Pending.new.Goals as goal
@@ -11,8 +11,10 @@ empty : (queue : List ℕ) → queue ≡ [] → distinct queue ≡ true
 unfolding distinct
 empty queue q = ap distinct q
 
-pub invariant_of-result : goal.invariant_of-result
-invariant_of-result c =
-    let h = c.in-Ok.ensures in
-    let k = c.in-Ok-with_capacity.ensures in
-    record { long = h.len; room = k.capacity; flagged = none _ _ c.args.size (h.items_if_clones_equal (λ y e. e)) k.items; once = empty _ k.items }
+pub invariant_of-result-clause-flagged : goal.invariant_of-result-clause-flagged
+invariant_of-result-clause-flagged c =
+    let flags : c.in_ok-flags.flags.items ≡ replicate c.args.size false = search rules in
+    let queue : c.in_ok-queue.queue.items ≡ [] = search rules in none _ _ c.args.size flags queue
+
+pub invariant_of-result-clause-once : goal.invariant_of-result-clause-once
+invariant_of-result-clause-once c = let queue : c.in_ok-queue.queue.items ≡ [] = search rules in empty _ queue

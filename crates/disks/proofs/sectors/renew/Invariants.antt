@@ -1,8 +1,0 @@
-use Rattle.std.proofs.Common.{◌≡◌, ℕ, ◌+◌, ◌-◌, ◌*◌, cond, get_or}
-use Rattle.simulated.specs.Lists.{inside}
-use Rattle.disks.proofs.sectors.renew.Given as goal
-
-abbrev pub invariant-loop-j : goal.invariant-loop-j
-invariant-loop-j l =
-    ((w : ℕ) → get_or l.settled w 0 ≡ cond (inside (512 * l.block) (512 * l.block + l.j) w) (get_or l.initial.present w 0) (get_or l.initial.settled w 0))
-    × ((w : ℕ) → get_or l.present w 0 ≡ cond (inside (512 * l.block) (512 * l.block + l.j) w) (get_or l.buf (w - 512 * l.block) 0) (get_or l.initial.present w 0))
