@@ -27,11 +27,10 @@ fn find_back<S: Source>(source: &S, ring: Ring, number: u64) -> Result<Option<us
     requires { is_ring ring.places ring.head ring.tail ≡ true }
     ensures { Finds (S.reads source.now) ring.places ring.head ring.tail number result }
 {
-    let places = ring.places;
     let mut place = ring.tail;
     let mut left = ring.used();
     while left > 0 {
-        let info_place = place_before(places, place, 1);
+        let info_place = place_before(ring.places, place, 1);
         let info = load_unit(source, info_place + 1)?;
         if !good_count(info[30], left) {
             return Ok(None);
@@ -39,9 +38,9 @@ fn find_back<S: Source>(source: &S, ring: Ring, number: u64) -> Result<Option<us
         let count = info[30] as usize;
         let taken = places_taken(count);
         if let Some(index) = index_of(number, &info[0..count]) {
-            return Ok(Some(place_before(places, place, taken - index)));
+            return Ok(Some(place_before(ring.places, place, taken - index)));
         }
-        place = place_before(places, place, taken);
+        place = place_before(ring.places, place, taken);
         left -= taken;
     }
     Ok(None)
