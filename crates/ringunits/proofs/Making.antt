@@ -1,7 +1,7 @@
 -- The words of a TxnInfo and of a transaction's places, made one by one. Assumes nothing.
-use Rattle.std.proofs.Common.{◌≡◌, ℕ, ◌+◌, ◌<◌, ◌≤◌, ◌≢◌, ◌⊎◌, List, [], ◌∷◌, length, get_or, take, set, replicate, sym, refl, ap, ◌∙◌, inl, inr, arith, length-set, get_or-set_other, get_or-set_same, below_more}
+use Rattle.std.proofs.Common.{rules, ◌-◌, ◌++◌, drop, subst, ◌≡◌, ℕ, ◌+◌, ◌<◌, ◌≤◌, ◌≢◌, ◌⊎◌, List, [], ◌∷◌, length, get_or, take, set, replicate, sym, ap, ◌∙◌, inl, inr, arith, length-set, get_or-set_other, get_or-set_same, below_more}
 use Rattle.std.proofs.lemmas.Bool.{cases_lt, cases_eq}
-use Rattle.std.proofs.lemmas.List.{ext_get_or, get_or_append_left, get_or_at, get_or-replicate, get_or-take, get_or-map, length-map, length-take-le}
+use Rattle.std.proofs.lemmas.List.{places, ext_get_or, get_or_append_left, get_or_at, get_or-take, get_or-map, length-map, length-take-le}
 use Rattle.ringlaws.specs.declared.setting.Setting.{Setting}
 use Rattle.ringlaws.specs.TxnInfo.{Transaction, numbers_of, record_units, magic, count_limit, taken, info_unit}
 use Rattle.ringlaws.specs.Spells.{units_of}
@@ -14,23 +14,18 @@ Begun ns i words =
     × ((k : ℕ) → k < i → get_or words k 0 ≡ get_or ns k 0)
     × ((k : ℕ) → i ≤ k → k < 32 → get_or words k 0 ≡ 0)
 
-pub begun_none : (ns : List ℕ) → Begun ns 0 (replicate 32 0)
-begun_none ns = (refl, (λ k lt. absurd (omega arith)), (λ k ge lt. get_or-replicate 32 k 0 0 lt))
+-- the numbers are put over the first of 32 zeros
+begun : (ns : List ℕ) → length ns ≤ count_limit → Begun ns (length ns) (ns ++ drop (length ns) (replicate 32 0))
+begun ns le = (search (rules, places), (λ k lt. search (rules, places)), (λ k ge lt. let z : length ns + (k - length ns) < 32 = omega arith in search (rules, places)))
 
-pub begun_more : (ns : List ℕ) (i : ℕ) (words : List ℕ) → i < 32 → Begun ns i words → Begun ns (i + 1) (set words i (get_or ns i 0))
-begun_more ns i words lt b =
-    let long = b.0 in
-    let inside : i < length words = omega arith in (
-      simp length-set long,
-      below_more _ _ (λ k less. let ne : k ≢ i = omega arith in rw get_or-set_other (b.1 k less)) (rw get_or-set_same),
-      (λ k ge less. let ne : k ≢ i = omega arith in rw get_or-set_other (b.2 k (omega arith) less)),
-    )
-
-pub info_made : (ns : List ℕ) → length ns ≤ count_limit → (i : ℕ) → i ≡ length ns → (words : List ℕ) → Begun ns i words → set (set words 30 (length ns)) 31 magic ≡ info_unit ns
-info_made ns le i same words b =
+pub info_made : (ns : List ℕ) → length ns ≤ count_limit → (words : List ℕ) → words ≡ ns ++ drop (length ns) (replicate 32 0) → set (set words 30 (length ns)) 31 magic ≡ info_unit ns
+info_made ns le words made =
     ext_get_or 0 (set (set words 30 (length ns)) 31 magic) (info_unit ns) same_long
     (λ k lt. at k (let l = same_long in let m = info_long ns le in omega arith) (cases_eq k 31) (cases_eq k 30) (cases_lt k (length ns)))
   where
+    b : Begun ns (length ns) words
+    b = subst (Begun ns (length ns)) (sym made) (begun ns le)
+
     long : length words ≡ 32
     long = b.0
 

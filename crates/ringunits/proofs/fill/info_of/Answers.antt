@@ -1,4 +1,4 @@
-use Rattle.std.proofs.Common.{◌-◌, length, refl, ap, ◌∙◌, arith}
+use Rattle.std.proofs.Common.{length, refl, ap, ◌∙◌, arith}
 use Rattle.ringlaws.specs.TxnInfo.{info_unit}
 use Rattle.ringunits.proofs.Making.{copied_more, copied_all}
 use Rattle.ringunits.proofs.fill.info_of.Goals as goal
@@ -12,4 +12,4 @@ loop-i-preserved c = copied_more c.args.settings.now c.loop-i.i _ c.loop-i.numbe
 pub returns : goal.returns
 returns c =
     c.info_words.ensures
-    ∙ ap info_unit (copied_all c.args.settings.now c.loop-i.i (length c.args.settings.now - 0) c.loop-i.numbers c.loop-i-test.false (omega arith) c.requires c.loop-i.invariant)
+    ∙ ap info_unit (copied_all c.args.settings.now c.loop-i.i (length c.args.settings.now) c.loop-i.numbers c.loop-i-test.false (omega arith) c.requires c.loop-i.invariant)
