@@ -1,5 +1,5 @@
 -- The walk, step by step. Assumes nothing.
-use Rattle.std.proofs.Common.{◌≡◌, ℕ, zero, suc, ◌-◌, ◌<◌, ◌≤◌, Bool, true, false, cond, List, [], ◌∷◌, Some, None, Option, is_some, MatchOption, refl, sym, ap, ◌∙◌, subst, inl, inr, arith}
+use Rattle.std.proofs.Common.{◌≡◌, ℕ, zero, suc, ◌-◌, ◌<◌, Bool, true, false, cond, List, [], ◌∷◌, Some, None, Option, is_some, MatchOption, refl, sym, ap, ◌∙◌, subst, inl, inr, arith}
 use Rattle.refusal.specs.declared.reason.Refusal.{Refusal}
 use Rattle.ringlaws.specs.Layout.{Contents, before, is_ring}
 use Rattle.ringlaws.specs.TxnInfo.{Transaction, taken, count_in, numbers_in, good_info}
@@ -47,12 +47,6 @@ module _ (reads : Reading) (N B head tail place left : ℕ) where
   came_on s st lt w c a =
       let (newer, e) = w c a in
       (transaction_before N c place ∷ newer, e ∙ goes_on reads N B place left s st c a lt newer)
-
-  pub came_home : left ≤ 0 → Came reads N B head tail place left → (c : Contents) → Agrees reads c → SoundBetween N B c head tail
-  came_home le w c a =
-      let (newer, e) = w c a in
-      let z : left ≡ 0 = omega arith in
-      (newer, e ∙ ap (λ k. stepping_back N B c k place k newer) z ∙ step_end N B c place newer)
 
   pub came_short : (e : Refusal) → is_ring N head tail ≡ true → 0 < left → Came reads N B head tail place left → NoStep reads N B place left e → WhyRefused reads N B head tail e
   came_short e r lt w (inl h) = handed_on r h

@@ -14,12 +14,7 @@ use ringunits::places::{Ring, place_before};
 pub fn index_of(number: u64, numbers: &[u64]) -> Option<usize>
     ensures { result ≡ index_of number numbers.now }
 {
-    for i in 0..numbers.len() {
-        if number == numbers[i] {
-            return Some(i);
-        }
-    }
-    None
+    numbers.iter().position(|other| *other == number)
 }
 
 /// Goes back from the tail to the first TxnInfo that names the record.

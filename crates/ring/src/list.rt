@@ -26,13 +26,15 @@ fn read_settings<S: Source>(
     ensures { MatchResult result (λ v. (c : Contents) → Agrees (S.reads source.now) c → v.items ≡ settings_at places c first 0 numbers.now) (λ e. (e ≡ NoMemory) ⊎ RefusesWithin (S.reads source.now) (places + 1) e) }
 {
     let mut settings = Vec::new(heap);
-    for i in 0..numbers.len() {
+    for (i, number) in numbers.iter().enumerate() {
         let place = place_after(places, first, i);
         let unit = load_unit(source, place + 1)?;
-        let number = numbers[i];
-        if settings.push(Setting { number, unit }).is_err() {
-            return Err(Refusal::NoMemory);
-        }
+        settings
+            .push(Setting {
+                number: *number,
+                unit,
+            })
+            .map_err(|_| Refusal::NoMemory)?;
     }
     Ok(settings)
 }

@@ -7,13 +7,13 @@ loop-i-init g c = (refl, λ d a k lt. absurd (omega arith))
 
 pub loop-i-preserved : goal.loop-i-preserved
 loop-i-preserved g c =
-    let lt : c.loop-i.i < length c.loop-i.words = let l = c.loop-i.invariant.0 in omega arith in
-    let read = sym c.word.ensures ∙ c.in_ok-words.was in (
+    let lt : c.loop-i.i < length c.loop-i.word-items = let l = c.loop-i.invariant.0 in omega arith in
+    let read = sym c.word.ensures ∙ c.in_ok-word.was in (
       simp length-set c.loop-i.invariant.0,
       (λ d a. below_more _ _
           (λ k i. let ne : k ≢ c.loop-i.i = omega arith in rw get_or-set_other (c.loop-i.invariant.1 d a k i))
-          (rw get_or-set_same (sym (a (32 * c.args.unit + c.loop-i.i) c.in_ok-words.field-0 read)))),
+          (rw get_or-set_same (sym (a (32 * c.args.unit + c.loop-i.i) c.in_ok-word.field-0 read)))),
     )
 
 pub returns : goal.returns
-returns g c = λ d a. unit_is d c.args.unit c.loop-i.words c.loop-i.invariant.0 (λ j lt. c.loop-i.invariant.1 d a j (omega arith))
+returns g c = λ d a. unit_is d c.args.unit c.loop-i.word-items c.loop-i.invariant.0 (λ j lt. c.loop-i.invariant.1 d a j (omega arith))
