@@ -34,26 +34,6 @@ module _ (reads : Reading) (N B place left : ℕ) (s : Step) (st : Stepped reads
       let r = st.rest in
       (omega arith, omega arith)
 
-  pub falls : 0 < left → s.left < left
-  falls lt = let r = st.rest in omega arith
-
--- a walk that has come to a place, with the newer transactions behind it
-abbrev pub Came : Reading → ℕ → ℕ → ℕ → ℕ → ℕ → ℕ → Type 0
-Came reads N B head tail place left =
-    (c : Contents) → Agrees reads c → (newer : List Transaction) × (step_back N B c head tail ≡ stepping_back N B c left place left newer)
-
-module _ (reads : Reading) (N B head tail place left : ℕ) where
-  pub came_on : (s : Step) → Stepped reads N B place left s → 0 < left → Came reads N B head tail place left → Came reads N B head tail s.first s.left
-  came_on s st lt w c a =
-      let (newer, e) = w c a in
-      (transaction_before N c place ∷ newer, e ∙ goes_on reads N B place left s st c a lt newer)
-
-  pub came_short : (e : Refusal) → is_ring N head tail ≡ true → 0 < left → Came reads N B head tail place left → NoStep reads N B place left e → WhyRefused reads N B head tail e
-  came_short e r lt w (inl h) = handed_on r h
-  came_short e r lt w (inr (u, f)) =
-      subst (WhyRefused reads N B head tail) (sym u)
-      (unsound r (λ c a. let (newer, q) = w c a in q ∙ step_bad N B c place left newer lt (f c a)))
-
 same_cond : (b : Bool) (v w x : Verdict) → stopped v ≡ stopped w → stopped (cond b v x) ≡ stopped (cond b w x)
 same_cond true v w x e = e
 same_cond false v w x e = refl

@@ -1,6 +1,5 @@
 //! The newest place of a record.
-ghost use Rattle.std.specs.Prelude.{◌≡◌, true};
-ghost use Rattle.ringlaws.specs.Layout.{is_ring};
+ghost use Rattle.std.specs.Prelude.{◌≡◌};
 ghost use Rattle.ringlaws.specs.Newest.{index_of};
 ghost use Rattle.ring.specs.Walks.{Finds};
 
@@ -17,11 +16,15 @@ pub fn index_of(number: u64, numbers: &[u64]) -> Option<usize>
     numbers.iter().position(|other| *other == number)
 }
 
-/// Goes back from the tail to the first TxnInfo that names the record.
-fn find_back<S: Source>(source: &S, ring: Ring, number: u64) -> Result<Option<usize>, Refusal>
-    requires { is_ring ring.places ring.head ring.tail ≡ true }
+/// The newest place of a record in a ring, or none if no transaction names it: goes back from the tail to the first TxnInfo that
+/// names the record. A head or tail that is no place, or more than 255 places, is refused as beyond the size.
+pub fn find<S: Source>(source: &S, ring: Ring, number: u64) -> Result<Option<usize>, Refusal>
     ensures { Finds (S.reads source.now) ring.places ring.head ring.tail number result }
 {
+    if !ring.is_valid() {
+        return Err(Refusal::Beyond);
+    }
+    // Kept: a search asks of a TxnInfo only that its Count is possible, and so goes on where a Walk would stop.
     let mut place = ring.tail;
     let mut left = ring.used();
     while left > 0 {
@@ -32,22 +35,11 @@ fn find_back<S: Source>(source: &S, ring: Ring, number: u64) -> Result<Option<us
         }
         let count = info[30] as usize;
         let taken = places_taken(count);
-        if let Some(index) = index_of(number, &info[0..count]) {
+        if let Some(index) = index_of(number, &info[..count]) {
             return Ok(Some(place_before(ring.places, place, taken - index)));
         }
         place = place_before(ring.places, place, taken);
         left -= taken;
     }
     Ok(None)
-}
-
-/// The newest place of a record in a ring, or none if no transaction names it. A head or tail that is no place, or more than
-/// 255 places, is refused as beyond the size.
-pub fn find<S: Source>(source: &S, ring: Ring, number: u64) -> Result<Option<usize>, Refusal>
-    ensures { Finds (S.reads source.now) ring.places ring.head ring.tail number result }
-{
-    if !ring.is_valid() {
-        return Err(Refusal::Beyond);
-    }
-    find_back(source, ring, number)
 }

@@ -2,7 +2,7 @@ use Rattle.std.proofs.Common.{◌≡◌, ◌<◌}
 use Rattle.ringlaws.specs.Layout.{Contents}
 use Rattle.ringlaws.specs.Newest.{seeking_back, newest}
 use Rattle.ring.specs.Sources.{Agrees}
-use Rattle.ring.proofs.find.find_back.Given as goal
+use Rattle.ring.proofs.find.find.Given as goal
 
 abbrev pub invariant-loop-left : goal.invariant-loop-left
 invariant-loop-left g l =
