@@ -41,28 +41,6 @@ fn settings(heap: Global, seed: u64, count: u64) -> Result<Vec<Setting>, AllocEr
     Ok(made)
 }
 
-fn same_setting(a: &Setting, b: &Setting) -> bool {
-    a.number == b.number && a.unit == b.unit
-}
-
-fn same(a: &Vec<Setting>, b: &Vec<Setting>) -> bool {
-    for (x, y) in a.iter().zip(b.iter()) {
-        if !same_setting(x, y) {
-            return false;
-        }
-    }
-    a.len() == b.len()
-}
-
-fn same_lists(a: &Vec<Vec<Setting>>, b: &Vec<Vec<Setting>>) -> bool {
-    for (x, y) in a.iter().zip(b.iter()) {
-        if !same(x, y) {
-            return false;
-        }
-    }
-    a.len() == b.len()
-}
-
 // An empty ring with head and tail at a place.
 fn empty(heap: Global, places: usize, place: usize) -> Result<Vec<u64>, AllocError> {
     let mut image = vec![in heap; 0; places.wrapping_add(1).wrapping_mul(32)]?;
@@ -117,7 +95,7 @@ fn there_and_back(
     };
     let walked = list::transactions(heap, &Words(image.as_slice()), ring, BLOCKS)?;
     assert!(rt; !made.is_empty());
-    assert!(rt; same_lists(&made, &walked));
+    assert!(rt; made == walked);
     walk::check(&Words(image.as_slice()), ring, BLOCKS)?;
     Ok(())
 }
@@ -147,13 +125,12 @@ fn agree(rt: &impl Abort, heap: Global, image: &Vec<u64>, places: usize) -> Resu
     let ring = Ring { places, head, tail };
     match list::transactions(heap, &source, ring, BLOCKS) {
         Ok(list) => {
-            assert!(rt; expected.bad.is_none());
-            assert!(rt; list.len() == expected.met);
+            assert_eq!(rt; expected, Ok(list.len()));
             assert!(rt; walk::check(&source, ring, BLOCKS).is_ok());
             Ok(())
         }
         Err(Refusal::UnsoundRing(place)) => {
-            assert_eq!(rt; expected.bad, Some(place));
+            assert_eq!(rt; expected, Err(place));
             assert_eq!(rt;
                 walk::check(&source, ring, BLOCKS),
                 Err(Refusal::UnsoundRing(place))

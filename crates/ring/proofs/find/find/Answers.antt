@@ -1,20 +1,9 @@
-use Rattle.std.proofs.Common.{◌≡◌, ℕ, ◌+◌, ◌-◌, sym, ap, ◌∙◌, refl, inl, inr, arith}
-use Rattle.std.proofs.lemmas.Result.{err_from_is_err_and}
+use Rattle.std.proofs.Common.{◌≡◌, ℕ, ◌+◌, ◌-◌, sym, ap, ◌∙◌, arith}
 use Rattle.ringlaws.specs.Layout.{unit_at, before}
 use Rattle.ringlaws.specs.TxnInfo.{count_in, taken}
-use Rattle.ringlaws.specs.Newest.{seeking_back}
-use Rattle.ringlaws.proofs.Places.{used_below, before_below}
-use Rattle.ringunits.proofs.Rings.{ring}
-use Rattle.ring.proofs.Listing.{wider}
+use Rattle.ringlaws.proofs.Places.{before_below}
 use Rattle.ring.proofs.Seeking.{index_below, sought_none, sought_stop, sought_here, sought_on}
 use Rattle.ring.proofs.find.find.Goals as goal
-
-pub loop-left-init : goal.loop-left-init
-loop-left-init g c =
-    let i = ring c.args.ring.places c.args.ring.head c.args.ring.tail (sym c.is_valid.ensures ∙ c.if-not-is_valid.false) in
-    let u = used_below c.args.ring.places c.args.ring.head c.args.ring.tail i.tail_in in
-    let e = c.used-left.ensures in
-    (i.tail_in, omega arith, λ d a. ap (λ k. seeking_back c.args.ring.places d c.args.number k c.args.ring.tail k) (sym e))
 
 pub loop-left-preserved : goal.loop-left-preserved
 loop-left-preserved g c =
@@ -33,14 +22,6 @@ loop-left-preserved g c =
           (c.loop-left.left - c.places_taken-taken.result) (omega arith) (sym c.index_of.ensures ∙ c.in_default.is)
           (e ∙ ap (before c.args.ring.places c.loop-left.place) t) (ap (λ k. c.loop-left.left - k) t),
     )
-
-pub returns-in_err-info : goal.returns-in_err-info
-returns-in_err-info g c =
-    let b = before_below c.args.ring.places c.loop-left.place 1 c.loop-left.invariant.0 in
-    let e = c.place_before-info_place.ensures in
-    let p = err_from_is_err_and c.from_residual.result c.from_residual.ensures.1 in
-    rw (p.1, p.2)
-    (inr ((sym c.is_valid.ensures ∙ c.if-not-is_valid.false), wider (g.S.Source.reads c.args.source.now) (c.place_before-info_place.result + 1 + 1) (c.args.ring.places + 1) c.in_err-info.field-0.0 (omega arith) c.in_err-info.ensures))
 
 pub returns-then-not-good_count : goal.returns-then-not-good_count
 returns-then-not-good_count g c = (
@@ -78,6 +59,3 @@ returns g c = (
   sought_none (g.S.Source.reads c.args.source.now) c.args.ring.places c.args.ring.head c.args.ring.tail c.args.number c.loop-left.place c.loop-left.left c.loop-left.invariant.2
       c.loop-left-test.false,
 )
-
-pub returns-then-not-is_valid : goal.returns-then-not-is_valid
-returns-then-not-is_valid g c = inl (sym c.is_valid.ensures ∙ c.if-not-is_valid.true, refl)
