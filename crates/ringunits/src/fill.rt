@@ -59,6 +59,7 @@ fn fill_places(image: &mut [u64], places: usize, place: usize, settings: &[Setti
     requires { (places ≤ 255) × ((place < places) × ((32 * (places + 1) ≤ length image.old) × ((length settings.now ≤ count_limit) × (taken (length settings.now) < places)))) }
     ensures { FilledPlaces places place (taken (length settings.now)) (units_of settings.now) image.old image.new }
 {
+    // Kept: the index is the loop's own subject, since it names both the unit and its place.
     for i in 0..places_taken(settings.len()) {
         let words = place_words(settings, i);
         fill(image, place_after(places, place, i) + 1, &words);

@@ -9,7 +9,7 @@ pub const MOST_PLACES: usize = 255;
 pub fn is_ring(places: usize, head: usize, tail: usize) -> bool
     ensures { result ≡ is_ring places head tail }
 {
-    places <= MOST_PLACES && head < places && tail < places
+    Ring { places, head, tail }.is_valid()
 }
 
 /// The numbers of a ring: how many places it has, the place where its used part begins, and the place where that ends.
@@ -66,7 +66,7 @@ pub fn used_between(places: usize, head: usize, tail: usize) -> usize
     requires { (head < places) × (tail < places) }
     ensures { result ≡ used_between places head tail }
 {
-    place_before(places, tail, head)
+    Ring { places, head, tail }.used()
 }
 
 /// Where a record has its home on the disk.
