@@ -1,5 +1,5 @@
 -- Units and places of an image, filled. Assumes nothing.
-use Rattle.std.proofs.Common.{rules, ◌-◌, ◌≡◌, ℕ, ◌+◌, ◌*◌, ◌/◌, ◌<◌, ◌≤◌, true, ◌&&◌, leb, ◌≢◌, List, [], length, get_or, set, sym, refl, ap, ◌∙◌, inl, inr, arith, get_or-set_other, get_or-set_same, below_more}
+use Rattle.std.proofs.Common.{rules, ◌-◌, ◌≡◌, ℕ, ◌+◌, ◌*◌, ◌/◌, ◌<◌, ◌≤◌, true, ◌&&◌, leb, ◌≢◌, List, [], length, get_or, set, sym, ap, ◌∙◌, inl, inr, arith, get_or-set_other, get_or-set_same, below_more}
 use borrow.Rule.Slice.PartMut.{put_mid}
 use Rattle.std.proofs.lemmas.List.{places}
 use Rattle.std.proofs.lemmas.Bool.{cases_lt, and_parts, leb-true}
@@ -27,9 +27,6 @@ unit_filled unit words old told fits = record {
 
     beyond : (w : ℕ) → 32 * unit + 32 ≤ w → get_or new w 0 ≡ get_or old w 0
     beyond w g = search (rules, places)
-
-pub places_none : (N place : ℕ) (units : List (List ℕ)) (old : List ℕ) → FilledPlaces N place 0 units old old
-places_none N place units old = record { long = refl; here = λ i lt. absurd (omega arith); others = λ w f. refl }
 
 -- the next place is filled
 pub places_more : (N place i p : ℕ) (units : List (List ℕ)) (words old cur new : List ℕ) → place < N → i < N → p ≡ after N place i → words ≡ get_or units i []
