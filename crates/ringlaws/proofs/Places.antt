@@ -24,6 +24,7 @@ before_below N p k h = mod-lt ((p + N) - k) (omega arith)
 pub used_below : (N head tail : ℕ) → tail < N → used_between N head tail < N
 used_below N head tail h = mod-lt ((tail + N) - head) (omega arith)
 
+-- the tail lies after the used places
 pub tail_is : (N head tail : ℕ) → head < N → tail < N → after N head (used_between N head tail) ≡ tail
 tail_is N head tail p q =
     let x = wrap N ((tail + N) - head) (omega arith) in
