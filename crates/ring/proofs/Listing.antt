@@ -1,5 +1,5 @@
 -- The transactions kept on the walk. Assumes nothing.
-use Rattle.std.proofs.Common.{◌≡◌, ℕ, suc, ◌+◌, ◌<◌, ◌≤◌, Bool, true, false, cond, not, List, [], ◌∷◌, ◌++◌, map, reverse, length, get_or, take, vec_items, Vec, sym, refl, ap, ◌∙◌, arith}
+use Rattle.std.proofs.Common.{◌≡◌, ℕ, suc, ◌+◌, ◌<◌, ◌≤◌, true, List, [], ◌∷◌, ◌++◌, map, reverse, length, get_or, take, vec_items, Vec, sym, refl, ap, ◌∙◌, arith}
 use mathlib.Core.List.{reverse_aux}
 use Rattle.std.proofs.lemmas.List.{take_more, take_all, length-take-le, map_push, reverse-append}
 use Rattle.std.specs.declared.alloc.Global.{Global}
@@ -13,15 +13,9 @@ use Rattle.ringlaws.proofs.Bad.{step_end}
 use Rattle.ringlaws.proofs.Back.{the_list_is_the_one}
 use Rattle.ring.specs.declared.step.Step.{Step}
 use Rattle.ring.specs.Sources.{Reading, Agrees, RefusesWithin}
-use Rattle.ring.specs.Walks.{Stepped, NoStep, WhyRefused, transactions_in}
+use Rattle.ring.specs.Walks.{Stepped, transactions_in}
 use Rattle.ringunits.proofs.Rings.{ring}
-use Rattle.ring.proofs.Walking.{over, goes_on, came_short}
-
--- what a push that came through leaves
-pub pushed : {X : Type 0} (ok err : Bool) (more xs : List X) → ok ≡ not err → err ≡ false → cond ok more xs ≡ more
-pushed ok true more xs p q = cc
-pushed true false more xs p q = refl
-pushed false false more xs p q = cc
+use Rattle.ring.proofs.Walking.{over, goes_on}
 
 pub wider : (reads : Reading) (a b : ℕ) (e : Refusal) → a ≤ b → RefusesWithin reads a e → RefusesWithin reads b e
 wider reads a b e le (w, lt, r) = (w, omega arith, r)
@@ -89,6 +83,3 @@ module _ (reads : Reading) (N B head tail place left : ℕ) (kept : List (Vec Se
       let same : reverse (map vec_items kept) ≡ transactions_in v = sym (map_reverse vec_items kept) ∙ ap (map vec_items) (sym e) in
       the_list_is_the_one N B c head tail i.head_in i.tail_in (transactions_in v)
       (w c a ∙ ap (λ k. stepping_back N B c k place k (reverse (map vec_items kept))) z ∙ step_end N B c place (reverse (map vec_items kept)) ∙ ap spelled same)
-
-  pub kept_short : (e : Refusal) → is_ring N head tail ≡ true → 0 < left → Kept reads N B head tail place left kept → NoStep reads N B place left e → WhyRefused reads N B head tail e
-  kept_short e r lt w n = came_short reads N B head tail place left e r lt (λ c a. (reverse (map vec_items kept), w c a)) n

@@ -1,9 +1,9 @@
 -- The search for the newest place, step by step. Assumes nothing.
-use Rattle.std.proofs.Common.{◌≡◌, ℕ, zero, suc, ◌+◌, ◌-◌, ◌<◌, ◌≤◌, Bool, true, false, cond, eqb, List, [], ◌∷◌, length, get_or, take, drop, Some, None, Option, sym, refl, ap, ◌∙◌, arith}
+use Rattle.std.proofs.Common.{◌≡◌, ℕ, zero, suc, ◌-◌, ◌<◌, ◌≤◌, Bool, true, false, cond, eqb, List, [], ◌∷◌, length, get_or, take, Some, None, Option, MatchOption, sym, refl, ap, ◌∙◌, arith}
 use Rattle.std.specs.Option.{option_map}
+use Rattle.std.specs.List.{AllWithin, HoldsAt}
 use Rattle.std.proofs.lemmas.Bool.Decides.{nat_tests}
 use Rattle.std.proofs.lemmas.Bool.{cond-true, cond-false, eq-eqb}
-use Rattle.std.proofs.lemmas.List.{at_drop_more, at_drop_all}
 use Rattle.ringlaws.specs.Layout.{Contents, before}
 use Rattle.ringlaws.specs.TxnInfo.{taken, count_in, numbers_in, good_count}
 use Rattle.ringlaws.specs.Sound.{info_before, stepped}
@@ -11,35 +11,27 @@ use Rattle.ringlaws.specs.Newest.{index_of, seeking_back, newest}
 use Rattle.ringlaws.proofs.Seek.{seek_end, seek_stop, seek_here, seek_on}
 use Rattle.ring.specs.Sources.{Reading, Agrees}
 
-index_all : (o : Option ℕ) → option_map (λ k. 0 + k) o ≡ o
-index_all None = refl
-index_all (Some k) = let z : 0 + k ≡ k = omega arith in ap Some z
+index_here : (r : ℕ) (xs : List ℕ) (i : ℕ) → i < length xs → r ≡ get_or xs i 0 → ((k : ℕ) → k < i → r ≡ get_or xs k 0 → ⊥) → index_of r xs ≡ Some i
+unfolding index_of
+index_here r [] i lt e before = absurd (omega arith)
+index_here r (x ∷ xs) zero lt e before = cond-true (eqb r x) (Some 0) (option_map suc (index_of r xs)) (eq-eqb r x e)
+index_here r (x ∷ xs) (suc i) lt e before =
+    let no-match : eqb r x ≡ false = let ne : r ≡ x → ⊥ = before 0 (omega arith) in grind (arith, nat_tests) in
+    cond-false (eqb r x) (Some 0) (option_map suc (index_of r xs)) no-match
+    ∙ ap (option_map suc) (index_here r xs i (omega arith) e (λ k l. before (suc k) (omega arith)))
 
-pub index_start : (r : ℕ) (xs : List ℕ) → option_map (λ k. 0 + k) (index_of r (drop 0 xs)) ≡ index_of r xs
-index_start r xs = index_all (index_of r xs)
+index_none : (r : ℕ) (xs : List ℕ) → ((k : ℕ) → k < length xs → r ≡ get_or xs k 0 → ⊥) → index_of r xs ≡ None
+unfolding index_of
+index_none r [] none = refl
+index_none r (x ∷ xs) none =
+    let no-match : eqb r x ≡ false = let ne : r ≡ x → ⊥ = none 0 (omega arith) in grind (arith, nat_tests) in
+    cond-false (eqb r x) (Some 0) (option_map suc (index_of r xs)) no-match ∙ ap (option_map suc) (index_none r xs (λ k l. none (suc k) (omega arith)))
 
-module _ (r : ℕ) (xs : List ℕ) (i : ℕ) where
-  here : i < length xs → option_map (λ k. i + k) (index_of r (drop i xs)) ≡ option_map (λ k. i + k) (cond (eqb r (get_or xs i 0)) (Some 0) (option_map suc (index_of r (drop (i + 1) xs))))
-  unfolding index_of
-  here lt = at_drop_more (λ l. option_map (λ k. i + k) (index_of r l)) xs i 0 lt
-
-  pub index_on : i < length xs → (r ≡ get_or xs i 0 → ⊥) → option_map (λ k. i + k) (index_of r (drop i xs)) ≡ index_of r xs → option_map (λ k. (i + 1) + k) (index_of r (drop (i + 1) xs)) ≡ index_of r xs
-  index_on lt ne inv =
-      let no-match : eqb r (get_or xs i 0) ≡ false = grind (arith, nat_tests) in
-      next (index_of r (drop (i + 1) xs)) ∙ ap (option_map (λ k. i + k)) (sym (cond-false (eqb r (get_or xs i 0)) (Some 0) (option_map suc (index_of r (drop (i + 1) xs))) no-match)) ∙ sym (here lt) ∙ inv
-    where
-      next : (o : Option ℕ) → option_map (λ k. (i + 1) + k) o ≡ option_map (λ k. i + k) (option_map suc o)
-      next None = refl
-      next (Some k) = let z : (i + 1) + k ≡ i + suc k = omega arith in ap Some z
-
-  pub index_here : i < length xs → r ≡ get_or xs i 0 → option_map (λ k. i + k) (index_of r (drop i xs)) ≡ index_of r xs → Some i ≡ index_of r xs
-  index_here lt e inv =
-      let z : i ≡ i + 0 = omega arith in
-      ap Some z ∙ ap (option_map (λ k. i + k)) (sym (cond-true (eqb r (get_or xs i 0)) (Some 0) (option_map suc (index_of r (drop (i + 1) xs))) (eq-eqb r (get_or xs i 0) e))) ∙ sym (here lt) ∙ inv
-
-  pub index_end : length xs ≤ i → option_map (λ k. i + k) (index_of r (drop i xs)) ≡ index_of r xs → None ≡ index_of r xs
-  unfolding index_of
-  index_end le inv = sym (at_drop_all (λ l. option_map (λ k. i + k) (index_of r l)) xs i le) ∙ inv
+-- the first place of a number, as a search for it tells
+pub index_first : (r : ℕ) (xs : List ℕ) (o : Option ℕ)
+    → MatchOption o (AllWithin (λ x. r ≡ x → ⊥) xs 0 (length xs)) (λ i. (i < length xs) × HoldsAt (λ x. r ≡ x) xs i × AllWithin (λ x. r ≡ x → ⊥) xs 0 i) → o ≡ index_of r xs
+index_first r xs None h = sym (index_none r xs (λ k lt. h k 0 (omega arith) lt))
+index_first r xs (Some i) (lt, here, before) = sym (index_here r xs i lt (here 0) (λ k l. before k 0 (omega arith) l))
 
 -- an index into the first n is below n
 pub index_below : (r n : ℕ) (xs : List ℕ) (k : ℕ) → index_of r (take n xs) ≡ Some k → k < n

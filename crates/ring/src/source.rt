@@ -23,10 +23,6 @@ impl Source for Words<'_> {
     ghost reads = { λ s n. word_of s.0.now n };
 
     fn word(&self, number: usize) -> Result<u64, Refusal> {
-        if number < self.0.len() {
-            Ok(self.0[number])
-        } else {
-            Err(Refusal::Beyond)
-        }
+        self.0.get(number).copied().ok_or(Refusal::Beyond)
     }
 }

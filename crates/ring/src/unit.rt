@@ -12,8 +12,8 @@ pub fn load_unit<S: Source>(source: &S, unit: usize) -> Result<[u64; 32], Refusa
     ensures { MatchResult result (λ words. (c : Contents) → Agrees (S.reads source.now) c → words ≡ unit_at c unit) (λ e. RefusesWithin (S.reads source.now) (unit + 1) e) }
 {
     let mut words = [0; 32];
-    for i in 0..32 {
-        words[i] = source.word(32 * unit + i)?;
+    for (i, word) in words.iter_mut().enumerate() {
+        *word = source.word(32 * unit + i)?;
     }
     Ok(words)
 }

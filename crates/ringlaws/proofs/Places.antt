@@ -3,7 +3,6 @@ use Rattle.std.proofs.Common.{◌≡◌, ℕ, ◌+◌, ◌-◌, ◌%◌, ◌<◌
 use native.Mathlib.Nat.{mod-eq-sub-mod}
 use native.Mathlib.Decide.{dec_lt}
 use Rattle.ringlaws.specs.Layout.{after, before, used_between}
-use Rattle.ringlaws.specs.Laws.{ThereAndBack}
 
 pub wrap : (N a : ℕ) → a < N + N → ((a < N) × (a % N ≡ a)) ⊎ ((N ≤ a) × (a % N + N ≡ a))
 wrap N a h = go (dec_lt a N)
@@ -24,11 +23,6 @@ before_below N p k h = mod-lt ((p + N) - k) (omega arith)
 
 pub used_below : (N head tail : ℕ) → tail < N → used_between N head tail < N
 used_below N head tail h = mod-lt ((tail + N) - head) (omega arith)
-
-pub after_none : (N p : ℕ) → p < N → after N p 0 ≡ p
-after_none N p h =
-    let x = wrap N (p + 0) (omega arith) in
-    omega arith
 
 -- the tail lies after the used places
 pub tail_is : (N head tail : ℕ) → head < N → tail < N → after N head (used_between N head tail) ≡ tail
@@ -54,13 +48,6 @@ after_after N p a b h l =
     let q : (p + a) % N < N = mod-lt (p + a) (omega arith) in
     let y = wrap N ((p + a) % N + b) (omega arith) in
     let z = wrap N (p + (a + b)) (omega arith) in
-    omega arith
-
-pub there_and_back : ThereAndBack
-there_and_back N place k h le =
-    let x = wrap N ((place + N) - k) (omega arith) in
-    let q : ((place + N) - k) % N < N = mod-lt ((place + N) - k) (omega arith) in
-    let y = wrap N (((place + N) - k) % N + k) (omega arith) in
     omega arith
 
 pub used_more : (N head tail n : ℕ) → head < N → tail < N → used_between N head tail + n < N → used_between N head (after N tail n) ≡ used_between N head tail + n

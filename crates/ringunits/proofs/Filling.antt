@@ -1,5 +1,7 @@
 -- Units and places of an image, filled. Assumes nothing.
-use Rattle.std.proofs.Common.{◌≡◌, ℕ, ◌+◌, ◌*◌, ◌/◌, ◌<◌, ◌≤◌, true, ◌&&◌, leb, ◌≢◌, ◌⊎◌, List, [], length, get_or, set, sym, refl, ap, ◌∙◌, inl, inr, arith, length-set, get_or-set_other, get_or-set_same, below_more}
+use Rattle.std.proofs.Common.{rules, ◌-◌, ◌≡◌, ℕ, ◌+◌, ◌*◌, ◌/◌, ◌<◌, ◌≤◌, true, ◌&&◌, leb, ◌≢◌, List, [], length, get_or, set, sym, ap, ◌∙◌, inl, inr, arith, get_or-set_other, get_or-set_same, below_more}
+use borrow.Rule.Slice.PartMut.{put_mid}
+use Rattle.std.proofs.lemmas.List.{places}
 use Rattle.std.proofs.lemmas.Bool.{cases_lt, and_parts, leb-true}
 use Rattle.ringlaws.specs.Layout.{most_places, is_ring, used, unit_at, after}
 use Rattle.ringlaws.specs.TxnInfo.{Transaction, count_limit, taken}
@@ -10,47 +12,21 @@ use Rattle.ringlaws.proofs.Units.{unit_is, unit_same}
 use Rattle.ringunits.specs.Images.{contents_of, Filled, FilledPlaces, can_append}
 use Rattle.ringunits.proofs.Rings.{ring}
 
--- i words of a unit are filled
-abbrev pub Filling : ℕ → ℕ → List ℕ → List ℕ → List ℕ → Type 0
-Filling unit i words old new =
-    (length new ≡ length old)
-    × ((j : ℕ) → j < i → get_or new (32 * unit + j) 0 ≡ get_or words j 0)
-    × ((w : ℕ) → (w < 32 * unit) ⊎ (32 * unit + i ≤ w) → get_or new w 0 ≡ get_or old w 0)
-
-pub filling_none : (unit : ℕ) (words old : List ℕ) → Filling unit 0 words old old
-filling_none unit words old = (refl, (λ j lt. absurd (omega arith)), (λ w o. refl))
-
-pub filling_more : (unit i : ℕ) (words old new : List ℕ) → i < 32 → 32 * (unit + 1) ≤ length old → Filling unit i words old new
-    → Filling unit (i + 1) words old (set new (32 * unit + i) (get_or words i 0))
-filling_more unit i words old new lt fits f =
-    let long = f.0 in
-    let inside : 32 * unit + i < length new = omega arith in (
-      simp length-set long,
-      below_more _ _ (λ j less. let ne : 32 * unit + j ≢ 32 * unit + i = omega arith in rw get_or-set_other (f.1 j less)) (rw get_or-set_same),
-      (λ w o. let ne : w ≢ 32 * unit + i = omega arith in rw get_or-set_other (f.2 w (outside w o))),
-    )
-  where
-    outside : (w : ℕ) → (w < 32 * unit) ⊎ (32 * unit + (i + 1) ≤ w) → (w < 32 * unit) ⊎ (32 * unit + i ≤ w)
-    outside w (inl l) = inl l
-    outside w (inr g) = inr (omega arith)
-
-pub filling_all : (unit i : ℕ) (words old new : List ℕ) → length words ≡ 32 → 32 ≤ i → i ≤ 32 → Filling unit i words old new → Filled unit words old new
-filling_all unit i words old new told ge le f = record {
-  long = f.0;
-  here = sym (unit_is (contents_of new) unit words told (λ j lt. sym (f.1 j (omega arith))));
-  others = λ w ne. f.2 w (outside w ne (cases_lt w (32 * unit)));
+pub unit_filled : (unit : ℕ) (words old : List ℕ) → length words ≡ 32 → 32 * (unit + 1) ≤ length old → Filled unit words old (put_mid (32 * unit) (32 * (unit + 1) - 32 * unit) old words)
+unit_filled unit words old told fits = record {
+  long = search (rules, places);
+  here = sym (unit_is (contents_of new) unit words told (λ j lt. sym (at_filled j lt)));
+  others = λ w ne. elim (cases_lt w (32 * unit)) [ inl l ↦ search (rules, places) | inr g ↦ beyond w (let z = ne in omega arith) ];
 }
   where
-    outside : (w : ℕ) → (w / 32 ≡ unit → ⊥) → (w < 32 * unit) ⊎ (32 * unit ≤ w) → (w < 32 * unit) ⊎ (32 * unit + i ≤ w)
-    outside w ne (inl l) = inl l
-    outside w ne (inr g) = go (cases_lt w (32 * unit + 32))
-      where
-        go : (w < 32 * unit + 32) ⊎ (32 * unit + 32 ≤ w) → (w < 32 * unit) ⊎ (32 * unit + i ≤ w)
-        go (inl l) = let z : w / 32 ≡ unit = omega arith in absurd (ne z)
-        go (inr h) = inr (omega arith)
+    new : List ℕ
+    new = put_mid (32 * unit) (32 * (unit + 1) - 32 * unit) old words
 
-pub places_none : (N place : ℕ) (units : List (List ℕ)) (old : List ℕ) → FilledPlaces N place 0 units old old
-places_none N place units old = record { long = refl; here = λ i lt. absurd (omega arith); others = λ w f. refl }
+    at_filled : (j : ℕ) → j < 32 → get_or new (32 * unit + j) 0 ≡ get_or words j 0
+    at_filled j lt = search (rules, places)
+
+    beyond : (w : ℕ) → 32 * unit + 32 ≤ w → get_or new w 0 ≡ get_or old w 0
+    beyond w g = search (rules, places)
 
 -- the next place is filled
 pub places_more : (N place i p : ℕ) (units : List (List ℕ)) (words old cur new : List ℕ) → place < N → i < N → p ≡ after N place i → words ≡ get_or units i []

@@ -1,10 +1,8 @@
 -- The words of a TxnInfo and of a transaction's places, made one by one. Assumes nothing.
-use Rattle.std.proofs.Common.{◌≡◌, ℕ, ◌+◌, ◌<◌, ◌≤◌, ◌≢◌, ◌⊎◌, List, [], ◌∷◌, length, get_or, take, set, replicate, sym, refl, ap, ◌∙◌, inl, inr, arith, length-set, get_or-set_other, get_or-set_same, below_more}
+use Rattle.std.proofs.Common.{rules, ◌-◌, ◌++◌, drop, subst, ◌≡◌, ℕ, ◌+◌, ◌<◌, ◌≤◌, ◌≢◌, ◌⊎◌, List, length, get_or, set, replicate, sym, ap, ◌∙◌, inl, inr, arith, length-set, get_or-set_other, get_or-set_same}
 use Rattle.std.proofs.lemmas.Bool.{cases_lt, cases_eq}
-use Rattle.std.proofs.lemmas.List.{ext_get_or, get_or_append_left, get_or_at, get_or-replicate, get_or-take, get_or-map, length-map, length-take-le}
-use Rattle.ringlaws.specs.declared.setting.Setting.{Setting}
-use Rattle.ringlaws.specs.TxnInfo.{Transaction, numbers_of, record_units, magic, count_limit, taken, info_unit}
-use Rattle.ringlaws.specs.Spells.{units_of}
+use Rattle.std.proofs.lemmas.List.{places, ext_get_or}
+use Rattle.ringlaws.specs.TxnInfo.{magic, count_limit, info_unit}
 use Rattle.ringlaws.proofs.Infos.{info_long, info_number, info_zero, info_count, info_magic}
 
 -- the first i words are numbers, the others zero
@@ -14,23 +12,18 @@ Begun ns i words =
     × ((k : ℕ) → k < i → get_or words k 0 ≡ get_or ns k 0)
     × ((k : ℕ) → i ≤ k → k < 32 → get_or words k 0 ≡ 0)
 
-pub begun_none : (ns : List ℕ) → Begun ns 0 (replicate 32 0)
-begun_none ns = (refl, (λ k lt. absurd (omega arith)), (λ k ge lt. get_or-replicate 32 k 0 0 lt))
+-- the numbers are put over the first of 32 zeros
+begun : (ns : List ℕ) → length ns ≤ count_limit → Begun ns (length ns) (ns ++ drop (length ns) (replicate 32 0))
+begun ns le = (search (rules, places), (λ k lt. search (rules, places)), (λ k ge lt. let z : length ns + (k - length ns) < 32 = omega arith in search (rules, places)))
 
-pub begun_more : (ns : List ℕ) (i : ℕ) (words : List ℕ) → i < 32 → Begun ns i words → Begun ns (i + 1) (set words i (get_or ns i 0))
-begun_more ns i words lt b =
-    let long = b.0 in
-    let inside : i < length words = omega arith in (
-      simp length-set long,
-      below_more _ _ (λ k less. let ne : k ≢ i = omega arith in rw get_or-set_other (b.1 k less)) (rw get_or-set_same),
-      (λ k ge less. let ne : k ≢ i = omega arith in rw get_or-set_other (b.2 k (omega arith) less)),
-    )
-
-pub info_made : (ns : List ℕ) → length ns ≤ count_limit → (i : ℕ) → i ≡ length ns → (words : List ℕ) → Begun ns i words → set (set words 30 (length ns)) 31 magic ≡ info_unit ns
-info_made ns le i same words b =
+pub info_made : (ns : List ℕ) → length ns ≤ count_limit → (words : List ℕ) → words ≡ ns ++ drop (length ns) (replicate 32 0) → set (set words 30 (length ns)) 31 magic ≡ info_unit ns
+info_made ns le words made =
     ext_get_or 0 (set (set words 30 (length ns)) 31 magic) (info_unit ns) same_long
     (λ k lt. at k (let l = same_long in let m = info_long ns le in omega arith) (cases_eq k 31) (cases_eq k 30) (cases_lt k (length ns)))
   where
+    b : Begun ns (length ns) words
+    b = subst (Begun ns (length ns)) (sym made) (begun ns le)
+
     long : length words ≡ 32
     long = b.0
 
@@ -49,33 +42,3 @@ info_made ns le i same words b =
         rw get_or-set_other (ap (λ i. get_or (set words 30 (length ns)) i 0) e ∙ rw get_or-set_same (sym (ap (λ i. get_or (info_unit ns) i 0) e ∙ info_count ns le)))
     at k lt (inr n) (inr o) (inl s) = rw (get_or-set_other, get_or-set_other) (b.1 k (omega arith) ∙ sym (info_number ns le k s))
     at k lt (inr n) (inr o) (inr g) = rw (get_or-set_other, get_or-set_other) (b.2 k (omega arith) lt ∙ sym (info_zero ns le k g (omega arith)))
-
--- the first i numbers of the settings
-abbrev pub Copied : Transaction → ℕ → List ℕ → Type 0
-Copied t i numbers = (length numbers ≡ 30) × ((k : ℕ) → k < i → get_or numbers k 0 ≡ get_or (numbers_of t) k 0)
-
-pub copied_more : (t : Transaction) (i : ℕ) (d : Setting) (numbers : List ℕ) → i < length t → length t ≤ count_limit → Copied t i numbers → Copied t (i + 1) (set numbers i (get_or t i d).number)
-copied_more t i d numbers lt le b =
-    let long = b.0 in
-    let inside : i < length numbers = omega arith in (
-      simp length-set long,
-      below_more _ _ (λ k less. let ne : k ≢ i = omega arith in rw get_or-set_other (b.1 k less)) (rw get_or-set_same (sym (get_or-map (λ s. s.number) t i d 0 lt))),
-    )
-
-pub copied_all : (t : Transaction) (i n : ℕ) (numbers : List ℕ) → length t ≤ i → n ≡ length t → length t ≤ count_limit → Copied t i numbers → take n numbers ≡ numbers_of t
-copied_all t i n numbers le same most b =
-    let long = b.0 in
-    let many : length (numbers_of t) ≡ length t = length-map t (λ s. s.number) in
-    let front : length (take n numbers) ≡ n = length-take-le n numbers (omega arith) in
-    ext_get_or 0 (take n numbers) (numbers_of t) (omega arith) (λ k lt. get_or-take n numbers k 0 (omega arith) ∙ b.1 k (omega arith))
-
--- a place's words
-pub record_words : (t : Transaction) (i : ℕ) (d : Setting) → i < length t → (get_or t i d).unit ≡ get_or (units_of t) i []
-record_words t i d lt =
-    let many : length (record_units t) ≡ length t = length-map t (λ s. s.unit) in
-    sym (get_or_append_left (record_units t) (info_unit (numbers_of t) ∷ []) [] i (omega arith) ∙ get_or-map (λ s. s.unit) t i d [] lt)
-
-pub info_words_last : (t : Transaction) (i : ℕ) (words : List ℕ) → length t ≤ i → i < taken (length t) → words ≡ info_unit (numbers_of t) → words ≡ get_or (units_of t) i []
-info_words_last t i words ge lt e =
-    let many : length (record_units t) ≡ i = length-map t (λ s. s.unit) ∙ (omega arith) in
-    e ∙ sym (get_or_at (record_units t) (info_unit (numbers_of t)) [] [] i many)

@@ -1,11 +1,13 @@
 //! Writing a transaction: the words of each of its places, and the places of an image filled with them.
-ghost use Rattle.std.specs.Prelude.{◌≡◌, ◌+◌, ◌*◌, ◌<◌, ◌≤◌, [], length, slice_index_or};
+ghost use Rattle.std.specs.Prelude.{◌≡◌, ◌+◌, ◌*◌, ◌<◌, ◌≤◌, [], length, slice_index_or, true, false, MatchOption};
+ghost use Rattle.ringlaws.specs.Layout.{head_of, tail_of};
 ghost use Rattle.ringlaws.specs.TxnInfo.{numbers_of, info_unit, count_limit, taken};
 ghost use Rattle.ringlaws.specs.Spells.{units_of};
-ghost use Rattle.ringunits.specs.Images.{Filled, FilledPlaces, can_append, Appends};
+ghost use Rattle.ringunits.specs.Images.{contents_of, Filled, FilledPlaces, can_append, Appends};
 
+use crate::header::{HEAD_WORD, TAIL_WORD};
 use crate::info::{COUNT_LIMIT, MAGIC, places_taken};
-use crate::places::{MOST_PLACES, is_ring, place_after, used_between};
+use crate::places::{MOST_PLACES, Ring, place_after};
 use ringlaws::setting::Setting;
 
 /// The TxnInfo of these numbers.
@@ -14,9 +16,7 @@ pub fn info_words(numbers: &[u64]) -> [u64; 32]
     ensures { result ≡ info_unit numbers.now }
 {
     let mut words = [0; 32];
-    for i in 0..numbers.len() {
-        words[i] = numbers[i];
-    }
+    words[..numbers.len()].copy_from_slice(numbers);
     words[30] = numbers.len() as u64;
     words[31] = MAGIC;
     words
@@ -28,10 +28,10 @@ pub fn info_of(settings: &[Setting]) -> [u64; 32]
     ensures { result ≡ info_unit (numbers_of settings.now) }
 {
     let mut numbers = [0; 30];
-    for i in 0..settings.len() {
-        numbers[i] = settings[i].number;
+    for (i, setting) in settings.iter().enumerate() {
+        numbers[i] = setting.number;
     }
-    info_words(&numbers[0..settings.len()])
+    info_words(&numbers[..settings.len()])
 }
 
 /// The words of a transaction's place: its records in their order, then its TxnInfo.
@@ -51,9 +51,7 @@ pub fn fill(image: &mut [u64], unit: usize, words: &[u64; 32])
     requires { (unit ≤ 255) × (32 * (unit + 1) ≤ length image.old) }
     ensures { Filled unit words.now image.old image.new }
 {
-    for i in 0..32 {
-        image[32 * unit + i] = words[i];
-    }
+    image[32 * unit..32 * (unit + 1)].copy_from_slice(words);
 }
 
 /// Fills the places of a transaction, from a place on.
@@ -61,25 +59,39 @@ fn fill_places(image: &mut [u64], places: usize, place: usize, settings: &[Setti
     requires { (places ≤ 255) × ((place < places) × ((32 * (places + 1) ≤ length image.old) × ((length settings.now ≤ count_limit) × (taken (length settings.now) < places)))) }
     ensures { FilledPlaces places place (taken (length settings.now)) (units_of settings.now) image.old image.new }
 {
+    // Kept: the index is the loop's own subject, since it names both the unit and its place.
     for i in 0..places_taken(settings.len()) {
         let words = place_words(settings, i);
         fill(image, place_after(places, place, i) + 1, &words);
     }
 }
 
+/// The ring of so many places in an image, if it has one with room for a transaction of so many records.
+fn ring_with_room(image: &[u64], places: usize, count: usize) -> Option<Ring>
+    ensures { MatchOption result (can_append places image.now count ≡ false) (λ r. (can_append places image.now count ≡ true) × (r.places ≡ places) × (r.head ≡ head_of (contents_of image.now)) × (r.tail ≡ tail_of (contents_of image.now))) }
+{
+    if places > MOST_PLACES || image.len() < 32 * (places + 1) {
+        return None;
+    }
+    let ring = Ring {
+        places,
+        head: image[HEAD_WORD] as usize,
+        tail: image[TAIL_WORD] as usize,
+    };
+    if !ring.is_valid() || count < 1 || count > COUNT_LIMIT {
+        return None;
+    }
+    if ring.used() + places_taken(count) > places - 1 {
+        return None;
+    }
+    Some(ring)
+}
+
 /// Whether an image holds a ring of so many places, with room for a transaction of so many records.
 pub fn can_append(image: &[u64], places: usize, count: usize) -> bool
     ensures { result ≡ can_append places image.now count }
 {
-    if places > MOST_PLACES || image.len() < 32 * (places + 1) {
-        return false;
-    }
-    let head = image[8] as usize;
-    let tail = image[16] as usize;
-    if !is_ring(places, head, tail) || count < 1 || count > COUNT_LIMIT {
-        return false;
-    }
-    used_between(places, head, tail) + places_taken(count) <= places - 1
+    ring_with_room(image, places, count).is_some()
 }
 
 /// Appends a transaction to the ring of an image and moves its tail: the places that are used then, or `None`, and nothing
@@ -87,13 +99,9 @@ pub fn can_append(image: &[u64], places: usize, count: usize) -> bool
 pub fn append(image: &mut [u64], places: usize, settings: &[Setting]) -> Option<usize>
     ensures { Appends places settings.now image.old result image.new }
 {
-    if !can_append(image, places, settings.len()) {
-        return None;
-    }
-    let tail = image[16] as usize;
+    let ring = ring_with_room(image, places, settings.len())?;
     let taken = places_taken(settings.len());
-    let used = used_between(places, image[8] as usize, tail) + taken;
-    fill_places(image, places, tail, settings);
-    image[16] = place_after(places, tail, taken) as u64;
-    Some(used)
+    fill_places(image, places, ring.tail, settings);
+    image[TAIL_WORD] = place_after(places, ring.tail, taken) as u64;
+    Some(ring.used() + taken)
 }

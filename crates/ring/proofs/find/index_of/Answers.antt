@@ -1,14 +1,12 @@
-use Rattle.ring.proofs.Seeking.{index_start, index_on, index_here, index_end}
+use Rattle.std.proofs.Common.{◌≡◌, rules}
+use borrow.Author.Tests.{tests}
+use Rattle.std.proofs.lemmas.Iterator.{IsFirst-from_position, YieldsList-from_slice}
+use Rattle.ring.proofs.Seeking.{index_first}
 use Rattle.ring.proofs.find.index_of.Goals as goal
 
-pub loop-i-init : goal.loop-i-init
-loop-i-init c = index_start c.args.number c.args.numbers.now
-
-pub loop-i-preserved : goal.loop-i-preserved
-loop-i-preserved c = index_on c.args.number c.args.numbers.now c.loop-i.i c.loop-i-test.true c.if-number-numbers.false c.loop-i.invariant
-
-pub returns-then-number-numbers : goal.returns-then-number-numbers
-returns-then-number-numbers c = index_here c.args.number c.args.numbers.now c.loop-i.i c.loop-i-test.true c.if-number-numbers.true c.loop-i.invariant
-
 pub returns : goal.returns
-returns c = index_end c.args.number c.args.numbers.now c.loop-i.i c.loop-i-test.false c.loop-i.invariant
+returns c =
+    let r = c.args.number in
+    index_first r c.args.numbers.now c.position.result
+    (IsFirst-from_position _ _ _ (λ x. r ≡ x) (λ x. r ≡ x → ⊥) c.position.ensures.ran (YieldsList-from_slice c.args.numbers.now cc)
+    (λ x q k. search (rules, tests)) (λ x q k. search (rules, tests)))

@@ -5,5 +5,5 @@ use Rattle.ring.proofs.unit.load_unit.Given as goal
 
 abbrev pub invariant-loop-i : goal.invariant-loop-i
 invariant-loop-i g l =
-    (length l.words ≡ 32)
-    × ((c : Contents) → Agrees (g.S.Source.reads l.source) c → (k : ℕ) → k < l.i → get_or l.words k 0 ≡ c (32 * l.unit + k))
+    (length l.word-items ≡ 32)
+    × ((c : Contents) → Agrees (g.S.Source.reads l.source) c → (k : ℕ) → k < l.i → get_or l.word-items k 0 ≡ c (32 * l.unit + k))
