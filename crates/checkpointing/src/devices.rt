@@ -1,9 +1,7 @@
 //! A checkpoint of both devices.
 ghost use Rattle.std.specs.Prelude.{◌≡◌, List, IfOk, MatchResult};
-ghost use Rattle.device.specs.Words.{nvm_rules, words_of};
+ghost use Rattle.device.specs.Words.{words_of};
 ghost use Rattle.device.specs.Sectors.{sectors_of};
-ghost use Rattle.crash.specs.Acts.{RanOn};
-ghost use Rattle.crash.specs.Rows.{sealing};
 ghost use Rattle.crash.specs.Pair.{both, RanPair};
 ghost use Rattle.ringlaws.specs.Layout.{tail_of};
 ghost use Rattle.ringlaws.specs.TxnInfo.{Transaction};
@@ -13,37 +11,13 @@ ghost use Rattle.checkpointing.specs.Ready.{Fit, Ready};
 use crate::blocks::write_homes;
 use crate::gather::gather;
 use crate::loads::Loads;
+pub use crate::rows::Rows;
+use acting::memory::seal;
 use device::disk::Disk;
 use device::nvm::Nvm;
 use refusal::reason::Refusal;
 use ringunits::header::{HEAD_WORD, MOST_BLOCKS};
 use ringunits::places::is_ring;
-
-/// Memory for the rows of a ring, taken once.
-#[derive(Drop)]
-pub struct Rows {
-    numbers: [u64; 255],
-    slots: [usize; 255],
-}
-
-impl Rows {
-    /// Room for the rows of any ring.
-    pub fn new() -> Rows {
-        Rows {
-            numbers: [0; 255],
-            slots: [0; 255],
-        }
-    }
-}
-
-/// Stores a word and makes it last.
-fn seal<N: Nvm>(nvm: &mut N, word: usize, value: u64) -> Result<(), Refusal>
-    ensures { RanOn nvm_rules (N.meaning nvm.old) (sealing word value) result (N.meaning nvm.new) }
-{
-    nvm.store(word, value)?;
-    nvm.flush(word / 8)?;
-    nvm.fence()
-}
 
 /// Refuses devices without power or too small, and a head or tail that is no place.
 fn check_fit<N: Nvm, D: Disk>(
@@ -85,28 +59,11 @@ pub fn checkpoint_devices<N: Nvm, D: Disk>(
 {
     check_fit(nvm, disk, places, blocks, head, tail)?;
     let source = Loads(nvm);
-    let count = gather(
-        &source,
-        places,
-        blocks,
-        head,
-        tail,
-        &mut rows.numbers,
-        &mut rows.slots,
-    )?;
-    if count == 0 {
+    gather(&source, places, blocks, head, tail, rows)?;
+    if rows.is_empty() {
         return Ok(0);
     }
-    let written = write_homes(
-        nvm,
-        disk,
-        places,
-        blocks,
-        &rows.numbers,
-        &rows.slots,
-        count,
-        buf,
-    )?;
+    let written = write_homes(nvm, disk, rows, blocks, buf)?;
     seal(nvm, HEAD_WORD, tail as u64)?;
     Ok(written)
 }

@@ -21,9 +21,7 @@ fn unit_of(block: &[u64; 512], unit: usize) -> [u64; 32]
     ensures { result ≡ unit_at (contents_of block.now) unit }
 {
     let mut words = [0; 32];
-    for i in 0..32 {
-        words[i] = block[32 * unit + i];
-    }
+    words.copy_from_slice(&block[32 * unit..32 * unit + 32]);
     words
 }
 
