@@ -1,12 +1,12 @@
 -- What walking back over a source of words answers, and why it is refused. Assumes nothing.
-use Rattle.std.specs.Prelude.{◌≡◌, ℕ, ◌+◌, ◌-◌, true, false, ◌⊎◌, List, map, Ok, Err, vec_items, Option, Result, Vec}
+use Rattle.std.specs.Prelude.{◌≡◌, ℕ, ◌+◌, ◌-◌, true, false, ◌⊎◌, List, [], map, Some, None, Ok, Err, vec_items, Option, Result, Vec}
 use Rattle.std.specs.declared.alloc.Global.{Global}
 use Rattle.refusal.specs.declared.reason.Refusal.{Refusal}
 use Rattle.refusal.specs.declared.reason.Refusal.TheVariants.{Beyond, NoMemory, UnsoundRing}
 use Rattle.ringlaws.specs.declared.setting.Setting.{Setting}
 use Rattle.ringlaws.specs.Layout.{Contents, before, is_ring}
 use Rattle.ringlaws.specs.TxnInfo.{Transaction, taken, count_in, good_info}
-use Rattle.ringlaws.specs.Sound.{bad_at, info_before, step_back, SoundBetween}
+use Rattle.ringlaws.specs.Sound.{Verdict, spelled, bad_at, info_before, stepping_back, step_back, SoundBetween}
 use Rattle.ringlaws.specs.Newest.{newest}
 use Rattle.ringlaws.specs.Laws.{IsTheList}
 use Rattle.ring.specs.declared.step.Step.{Step}
@@ -25,6 +25,15 @@ abbrev pub NoStep : Reading → ℕ → ℕ → ℕ → ℕ → Refusal → Type
 NoStep reads N B place left e =
     RefusesWithin reads (N + 1) e
     ⊎ ((e ≡ UnsoundRing (before N place 1)) × ((c : Contents) → Agrees reads c → good_info B left (info_before N c place) ≡ false))
+
+-- where a verdict stopped, if it did
+abbrev pub stopped : Verdict → Option ℕ
+stopped (spelled ts) = None
+stopped (bad_at p) = Some p
+
+-- a walk that has come to a place: whether the whole ring is sound, and where stepping back stops, is decided by what is left
+abbrev pub Decides : Reading → ℕ → ℕ → ℕ → ℕ → ℕ → ℕ → Type 0
+Decides reads N B head tail place left = (c : Contents) → Agrees reads c → stopped (step_back N B c head tail) ≡ stopped (stepping_back N B c left place left [])
 
 -- why a walk is refused: head or tail is no place of a ring; the source refused a word, and that is handed on; or the ring is
 -- unsound, with the place where stepping back stops

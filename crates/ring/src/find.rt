@@ -8,7 +8,7 @@ use crate::source::Source;
 use crate::unit::load_unit;
 use refusal::reason::Refusal;
 use ringunits::info::{good_count, places_taken};
-use ringunits::places::{is_ring, place_before, used_between};
+use ringunits::places::{Ring, place_before};
 
 /// Where a number stands among the numbers.
 pub fn index_of(number: u64, numbers: &[u64]) -> Option<usize>
@@ -23,20 +23,14 @@ pub fn index_of(number: u64, numbers: &[u64]) -> Option<usize>
 }
 
 /// Goes back from the tail to the first TxnInfo that names the record.
-fn find_back<S: Source>(
-    source: &S,
-    places: usize,
-    head: usize,
-    tail: usize,
-    number: u64,
-) -> Result<Option<usize>, Refusal>
-    requires { is_ring places head tail ≡ true }
-    ensures { Finds (S.reads source.now) places head tail number result }
+fn find_back<S: Source>(source: &S, ring: Ring, number: u64) -> Result<Option<usize>, Refusal>
+    requires { is_ring ring.places ring.head ring.tail ≡ true }
+    ensures { Finds (S.reads source.now) ring.places ring.head ring.tail number result }
 {
-    let mut place = tail;
-    let mut left = used_between(places, head, tail);
+    let mut place = ring.tail;
+    let mut left = ring.used();
     while left > 0 {
-        let info_place = place_before(places, place, 1);
+        let info_place = place_before(ring.places, place, 1);
         let info = load_unit(source, info_place + 1)?;
         if !good_count(info[30], left) {
             return Ok(None);
@@ -44,9 +38,9 @@ fn find_back<S: Source>(
         let count = info[30] as usize;
         let taken = places_taken(count);
         if let Some(index) = index_of(number, &info[0..count]) {
-            return Ok(Some(place_before(places, place, taken - index)));
+            return Ok(Some(place_before(ring.places, place, taken - index)));
         }
-        place = place_before(places, place, taken);
+        place = place_before(ring.places, place, taken);
         left -= taken;
     }
     Ok(None)
@@ -54,17 +48,11 @@ fn find_back<S: Source>(
 
 /// The newest place of a record in a ring, or none if no transaction names it. A head or tail that is no place, or more than
 /// 255 places, is refused as beyond the size.
-pub fn find<S: Source>(
-    source: &S,
-    places: usize,
-    head: usize,
-    tail: usize,
-    number: u64,
-) -> Result<Option<usize>, Refusal>
-    ensures { Finds (S.reads source.now) places head tail number result }
+pub fn find<S: Source>(source: &S, ring: Ring, number: u64) -> Result<Option<usize>, Refusal>
+    ensures { Finds (S.reads source.now) ring.places ring.head ring.tail number result }
 {
-    if !is_ring(places, head, tail) {
+    if !ring.is_valid() {
         return Err(Refusal::Beyond);
     }
-    find_back(source, places, head, tail, number)
+    find_back(source, ring, number)
 }

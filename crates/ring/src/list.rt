@@ -1,17 +1,17 @@
 //! The transactions of a ring, in memory of their own.
 ghost use Rattle.std.specs.Prelude.{◌≡◌, ℕ, ◌+◌, ◌<◌, ◌≤◌, true, ◌⊎◌, length, MatchResult};
 ghost use Rattle.refusal.specs.declared.reason.Refusal.TheVariants.{NoMemory};
-ghost use Rattle.ringlaws.specs.Layout.{Contents, is_ring};
+ghost use Rattle.ringlaws.specs.Layout.{Contents};
 ghost use Rattle.ringlaws.specs.Sound.{settings_at};
 ghost use Rattle.ring.specs.Sources.{Agrees, RefusesWithin};
 ghost use Rattle.ring.specs.Walks.{Lists};
 
 use crate::source::Source;
 use crate::unit::load_unit;
-use crate::walk::step_back;
+use crate::walk::Walk;
 use refusal::reason::Refusal;
 use ringlaws::setting::Setting;
-use ringunits::places::{is_ring, place_after, used_between};
+use ringunits::places::{Ring, place_after};
 use std::alloc::Global;
 
 /// The settings of these numbers, with the units in the places from `first` on.
@@ -37,48 +37,22 @@ fn read_settings<S: Source>(
     Ok(settings)
 }
 
-/// Steps back from the tail and keeps every transaction.
-fn list_back<S: Source>(
-    heap: Global,
-    source: &S,
-    places: usize,
-    blocks: usize,
-    head: usize,
-    tail: usize,
-) -> Result<Vec<Vec<Setting>>, Refusal>
-    requires { is_ring places head tail ≡ true }
-    ensures { Lists (S.reads source.now) places blocks head tail result }
-{
-    let mut newest_first = Vec::new(heap);
-    let mut place = tail;
-    let mut left = used_between(places, head, tail);
-    while left > 0 {
-        let step = step_back(source, places, blocks, place, left)?;
-        let settings = read_settings(heap, source, places, step.first, &step.info[0..step.count])?;
-        if newest_first.push(settings).is_err() {
-            return Err(Refusal::NoMemory);
-        }
-        place = step.first;
-        left = step.left;
-    }
-    newest_first.reverse();
-    Ok(newest_first)
-}
-
 /// The one list of transactions that a ring spells, the oldest first, or why there is none. A head or tail that is no place,
 /// or more than 255 places, is refused as beyond the size.
 pub fn transactions<S: Source>(
     heap: Global,
     source: &S,
-    places: usize,
+    ring: Ring,
     blocks: usize,
-    head: usize,
-    tail: usize,
 ) -> Result<Vec<Vec<Setting>>, Refusal>
-    ensures { Lists (S.reads source.now) places blocks head tail result }
+    ensures { Lists (S.reads source.now) ring.places blocks ring.head ring.tail result }
 {
-    if !is_ring(places, head, tail) {
-        return Err(Refusal::Beyond);
+    let mut walk = Walk::from_tail(source, ring, blocks)?;
+    let mut newest_first = Vec::new(heap);
+    while let Some(step) = walk.step()? {
+        let settings = read_settings(heap, source, ring.places, step.first, step.numbers())?;
+        newest_first.push(settings).map_err(|_| Refusal::NoMemory)?;
     }
-    list_back(heap, source, places, blocks, head, tail)
+    newest_first.reverse();
+    Ok(newest_first)
 }

@@ -4,6 +4,7 @@ use ring::source::Words;
 use ring::{find, list, walk};
 use ringlaws::setting::Setting;
 use ringunits::fill;
+use ringunits::places::Ring;
 use std::alloc::{AllocError, Global};
 use std::process::Abort;
 use std::test::Fail;
@@ -109,10 +110,15 @@ fn there_and_back(
     let mut image = empty(heap, places, place)?;
     let made = filled(heap, &mut image, places, seed)?;
     let tail = word(&image, 16);
-    let walked = list::transactions(heap, &Words(image.as_slice()), places, BLOCKS, place, tail)?;
+    let ring = Ring {
+        places,
+        head: place,
+        tail,
+    };
+    let walked = list::transactions(heap, &Words(image.as_slice()), ring, BLOCKS)?;
     assert!(rt; !made.is_empty());
     assert!(rt; same_lists(&made, &walked));
-    walk::check(&Words(image.as_slice()), places, BLOCKS, place, tail)?;
+    walk::check(&Words(image.as_slice()), ring, BLOCKS)?;
     Ok(())
 }
 
@@ -138,17 +144,18 @@ fn agree(rt: &impl Abort, heap: Global, image: &Vec<u64>, places: usize) -> Resu
     let source = Words(image.as_slice());
     let head = word(image, 8);
     let tail = word(image, 16);
-    match list::transactions(heap, &source, places, BLOCKS, head, tail) {
+    let ring = Ring { places, head, tail };
+    match list::transactions(heap, &source, ring, BLOCKS) {
         Ok(list) => {
             assert!(rt; expected.bad.is_none());
             assert!(rt; list.len() == expected.met);
-            assert!(rt; walk::check(&source, places, BLOCKS, head, tail).is_ok());
+            assert!(rt; walk::check(&source, ring, BLOCKS).is_ok());
             Ok(())
         }
         Err(Refusal::UnsoundRing(place)) => {
             assert_eq!(rt; expected.bad, Some(place));
             assert_eq!(rt;
-                walk::check(&source, places, BLOCKS, head, tail),
+                walk::check(&source, ring, BLOCKS),
                 Err(Refusal::UnsoundRing(place))
             );
             Ok(())
@@ -192,12 +199,22 @@ fn a_record_may_end_in_magic(rt: HostRuntime) -> Result<(), Fail> {
     assert_eq!(rt; fill::append(image.as_mut_slice(), 32, &t), Some(3));
     assert_eq!(rt; fill::append(image.as_mut_slice(), 32, &t), Some(6));
     let source = Words(image.as_slice());
-    let list = list::transactions(rt.alloc(), &source, 32, BLOCKS, 30, 4)?;
+    let ring = Ring {
+        places: 32,
+        head: 30,
+        tail: 4,
+    };
+    let list = list::transactions(rt.alloc(), &source, ring, BLOCKS)?;
     assert_eq!(rt; list.len(), 2);
-    assert_eq!(rt; find::find(&source, 32, 30, 4, 5), Ok(Some(1)));
-    assert_eq!(rt; find::find(&source, 32, 30, 4, 3), Ok(Some(2)));
-    assert_eq!(rt; find::find(&source, 32, 30, 4, 4), Ok(None));
-    assert_eq!(rt; find::find(&source, 32, 32, 4, 4), Err(Refusal::Beyond));
+    assert_eq!(rt; find::find(&source, ring, 5), Ok(Some(1)));
+    assert_eq!(rt; find::find(&source, ring, 3), Ok(Some(2)));
+    assert_eq!(rt; find::find(&source, ring, 4), Ok(None));
+    let beyond = Ring {
+        places: 32,
+        head: 32,
+        tail: 4,
+    };
+    assert_eq!(rt; find::find(&source, beyond, 4), Err(Refusal::Beyond));
     Ok(())
 }
 

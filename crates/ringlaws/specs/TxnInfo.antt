@@ -1,6 +1,7 @@
 -- A transaction is a list of settings. Its TxnInfo is the unit behind its records that names them: their numbers, zeros, Count
 -- and Magic. Assumes nothing.
 use Rattle.std.specs.Prelude.{ℕ, ◌+◌, ◌-◌, Bool, true, false, not, ◌&&◌, ◌||◌, List, [], ◌∷◌, ◌++◌, map, length, take, drop, replicate, ◌==◌, nat_le, nat_lt, slice_index}
+use Rattle.std.specs.List.{list_all}
 use Rattle.ringlaws.specs.declared.setting.Setting.{Setting}
 use Rattle.ringlaws.specs.Layout.{records_of}
 
@@ -58,12 +59,10 @@ distinct [] = true
 distinct (x ∷ xs) = not (member x xs) && distinct xs
 
 unfoldable pub all_below : ℕ → List ℕ → Bool
-all_below limit [] = true
-all_below limit (x ∷ xs) = nat_lt x limit && all_below limit xs
+all_below limit xs = list_all (λ x. nat_lt x limit) xs
 
 unfoldable pub all_zero : List ℕ → Bool
-all_zero [] = true
-all_zero (x ∷ xs) = x == 0 && all_zero xs
+all_zero xs = list_all (λ x. x == 0) xs
 
 -- Count is 1 to 30, and the transaction fits the used places that are left
 abbrev pub good_count : ℕ → List ℕ → Bool

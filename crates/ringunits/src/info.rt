@@ -1,5 +1,6 @@
 //! A unit judged as a TxnInfo.
 ghost use Rattle.std.specs.Prelude.{◌≡◌, ◌+◌, ◌*◌, ◌≤◌, ◌&&◌, nat_le};
+ghost use Rattle.ringlaws.specs.Layout.{records_of};
 ghost use Rattle.ringlaws.specs.TxnInfo.{count_limit, taken, member, distinct, all_below, all_zero, good_numbers, good_count, good_info};
 
 /// The last word of a TxnInfo. A record's unit may end in the same word, so nothing ever searches for it.
@@ -16,42 +17,40 @@ pub fn places_taken(count: usize) -> usize
 }
 
 /// Whether the words are all zero.
+#[tactic(auto, unfolding(ringlaws::specs::TxnInfo::all_zero))]
 pub fn all_zero(words: &[u64]) -> bool
     ensures { result ≡ all_zero words.now }
 {
-    for word in words {
-        if *word != 0 {
+    words.iter().all(|word| *word == 0)
+}
+
+/// Whether the numbers are all different.
+fn are_distinct(numbers: &[u64]) -> bool
+    ensures { result ≡ distinct numbers.now }
+{
+    let mut rest = numbers;
+    while let Some((number, others)) = rest.split_first() {
+        if others.contains(number) {
             return false;
         }
+        rest = others;
     }
     true
 }
 
-/// Whether the number stands among the numbers.
-pub fn occurs(number: u64, numbers: &[u64]) -> bool
-    ensures { result ≡ member number numbers.now }
+/// Whether the numbers are records of a disk of so many blocks.
+#[tactic(auto, unfolding(ringlaws::specs::TxnInfo::all_below))]
+fn are_on_disk(numbers: &[u64], blocks: usize) -> bool
+    ensures { result ≡ all_below (records_of blocks) numbers.now }
 {
-    for other in numbers {
-        if number == *other {
-            return true;
-        }
-    }
-    false
+    numbers.iter().all(|number| number / 16 < blocks as u64)
 }
 
 /// Whether the numbers are records of a disk of so many blocks, and all different.
 pub fn good_numbers(numbers: &[u64], blocks: usize) -> bool
     ensures { result ≡ good_numbers blocks numbers.now }
 {
-    for i in 0..numbers.len() {
-        if numbers[i] / 16 >= blocks as u64 {
-            return false;
-        }
-        if occurs(numbers[i], &numbers[i + 1..]) {
-            return false;
-        }
-    }
-    true
+    are_on_disk(numbers, blocks) && are_distinct(numbers)
 }
 
 /// Whether Count is possible with so many used places left.

@@ -12,6 +12,31 @@ pub fn is_ring(places: usize, head: usize, tail: usize) -> bool
     places <= MOST_PLACES && head < places && tail < places
 }
 
+/// The numbers of a ring: how many places it has, the place where its used part begins, and the place where that ends.
+#[derive(Clone, Copy, PartialEq, Eq, Debug)]
+pub struct Ring {
+    pub places: usize,
+    pub head: usize,
+    pub tail: usize,
+}
+
+impl Ring {
+    /// Whether head and tail are places of a ring of so many.
+    pub fn is_valid(self) -> bool
+        ensures { result ≡ is_ring self.places self.head self.tail }
+    {
+        self.places <= MOST_PLACES && self.head < self.places && self.tail < self.places
+    }
+
+    /// How many places are used.
+    pub fn used(self) -> usize
+        requires { (self.head < self.places) × (self.tail < self.places) }
+        ensures { result ≡ used_between self.places self.head self.tail }
+    {
+        place_before(self.places, self.tail, self.head)
+    }
+}
+
 /// The place `steps` places before a place. Whatever steps back goes by this.
 pub fn place_before(places: usize, place: usize, steps: usize) -> usize
     requires { (place < places) × (steps ≤ places) }

@@ -11,10 +11,10 @@ use Rattle.ring.proofs.find.find_back.Goals as goal
 
 pub loop-left-init : goal.loop-left-init
 loop-left-init g c =
-    let i = ring c.args.places c.args.head c.args.tail c.requires in
-    let u = used_below c.args.places c.args.head c.args.tail i.tail_in in
-    let e = c.used_between-left.ensures in
-    (i.tail_in, omega arith, λ d a. ap (λ k. seeking_back c.args.places d c.args.number k c.args.tail k) (sym e))
+    let i = ring c.args.ring.places c.args.ring.head c.args.ring.tail c.requires in
+    let u = used_below c.args.ring.places c.args.ring.head c.args.ring.tail i.tail_in in
+    let e = c.used-left.ensures in
+    (i.tail_in, omega arith, λ d a. ap (λ k. seeking_back c.args.ring.places d c.args.number k c.args.ring.tail k) (sym e))
 
 pub loop-left-preserved : goal.loop-left-preserved
 loop-left-preserved g c =
@@ -22,30 +22,30 @@ loop-left-preserved g c =
     let n : ℕ = count_in u - 0 in
     let told = c.places_taken-taken.ensures in
     let t : c.places_taken-taken.result ≡ taken n = omega arith in
-    let b = before_below c.args.places c.loop-left.place c.places_taken-taken.result c.loop-left.invariant.0 in
+    let b = before_below c.args.ring.places c.loop-left.place c.places_taken-taken.result c.loop-left.invariant.0 in
     let e = c.place_before-place.ensures in
     let less = c.loop-left.invariant.1 in (
       omega arith,
       omega arith,
-      sought_on (g.S.Source.reads c.args.source.now) c.args.places c.args.head c.args.tail c.args.number c.loop-left.place c.loop-left.left c.loop-left.invariant.2
+      sought_on (g.S.Source.reads c.args.source.now) c.args.ring.places c.args.ring.head c.args.ring.tail c.args.number c.loop-left.place c.loop-left.left c.loop-left.invariant.2
           u (λ d a. c.in_ok-info.ensures d a ∙ ap (λ p. unit_at d (p + 1)) c.place_before-info_place.ensures) c.loop-left-test.true
           (sym c.good_count.ensures ∙ c.if-not-good_count.false) n c.place_before-place.result
           (c.loop-left.left - c.places_taken-taken.result) (omega arith) (sym c.index_of.ensures ∙ c.in_default.is)
-          (e ∙ ap (before c.args.places c.loop-left.place) t) (ap (λ k. c.loop-left.left - k) t),
+          (e ∙ ap (before c.args.ring.places c.loop-left.place) t) (ap (λ k. c.loop-left.left - k) t),
     )
 
 pub returns-in_err-info : goal.returns-in_err-info
 returns-in_err-info g c =
-    let b = before_below c.args.places c.loop-left.place 1 c.loop-left.invariant.0 in
+    let b = before_below c.args.ring.places c.loop-left.place 1 c.loop-left.invariant.0 in
     let e = c.place_before-info_place.ensures in
     let p = err_from_is_err_and c.from_residual.result c.from_residual.ensures.1 in
     rw (p.1, p.2)
-    (inr (c.requires, wider (g.S.Source.reads c.args.source.now) (c.place_before-info_place.result + 1 + 1) (c.args.places + 1) c.in_err-info.field-0.0 (omega arith) c.in_err-info.ensures))
+    (inr (c.requires, wider (g.S.Source.reads c.args.source.now) (c.place_before-info_place.result + 1 + 1) (c.args.ring.places + 1) c.in_err-info.field-0.0 (omega arith) c.in_err-info.ensures))
 
 pub returns-then-not-good_count : goal.returns-then-not-good_count
 returns-then-not-good_count g c = (
   c.requires,
-  sought_stop (g.S.Source.reads c.args.source.now) c.args.places c.args.head c.args.tail c.args.number c.loop-left.place c.loop-left.left c.loop-left.invariant.2
+  sought_stop (g.S.Source.reads c.args.source.now) c.args.ring.places c.args.ring.head c.args.ring.tail c.args.number c.loop-left.place c.loop-left.left c.loop-left.invariant.2
       c.in_ok-info.info (λ d a. c.in_ok-info.ensures d a ∙ ap (λ p. unit_at d (p + 1)) c.place_before-info_place.ensures) c.loop-left-test.true
       (sym c.good_count.ensures ∙ c.if-not-good_count.true),
 )
@@ -66,15 +66,15 @@ returns-in-Some g c =
     let told = c.places_taken-taken.ensures in
     let t : c.places_taken-taken.result ≡ taken n = omega arith in (
       c.requires,
-      sought_here (g.S.Source.reads c.args.source.now) c.args.places c.args.head c.args.tail c.args.number c.loop-left.place c.loop-left.left c.loop-left.invariant.2
+      sought_here (g.S.Source.reads c.args.source.now) c.args.ring.places c.args.ring.head c.args.ring.tail c.args.number c.loop-left.place c.loop-left.left c.loop-left.invariant.2
           u (λ d a. c.in_ok-info.ensures d a ∙ ap (λ p. unit_at d (p + 1)) c.place_before-info_place.ensures) c.loop-left-test.true
           (sym c.good_count.ensures ∙ c.if-not-good_count.false) n c.in-Some.index c.place_before.result (omega arith)
-          (sym c.index_of.ensures ∙ c.in-Some.is) (c.place_before.ensures ∙ ap (λ k. before c.args.places c.loop-left.place (k - c.in-Some.index)) t),
+          (sym c.index_of.ensures ∙ c.in-Some.is) (c.place_before.ensures ∙ ap (λ k. before c.args.ring.places c.loop-left.place (k - c.in-Some.index)) t),
     )
 
 pub returns : goal.returns
 returns g c = (
   c.requires,
-  sought_none (g.S.Source.reads c.args.source.now) c.args.places c.args.head c.args.tail c.args.number c.loop-left.place c.loop-left.left c.loop-left.invariant.2
+  sought_none (g.S.Source.reads c.args.source.now) c.args.ring.places c.args.ring.head c.args.ring.tail c.args.number c.loop-left.place c.loop-left.left c.loop-left.invariant.2
       c.loop-left-test.false,
 )
