@@ -12,31 +12,23 @@ use crate::blocks::write_homes;
 use crate::gather::gather;
 use crate::loads::Loads;
 pub use crate::rows::Rows;
+use acting::both::check_power;
 use acting::memory::seal;
 use device::disk::Disk;
 use device::nvm::Nvm;
 use refusal::reason::Refusal;
 use ringunits::header::{HEAD_WORD, MOST_BLOCKS};
-use ringunits::places::is_ring;
+use ringunits::places::Ring;
 
 /// Refuses devices without power or too small, and a head or tail that is no place.
-fn check_fit<N: Nvm, D: Disk>(
-    nvm: &N,
-    disk: &D,
-    places: usize,
-    blocks: usize,
-    head: usize,
-    tail: usize,
-) -> Result<(), Refusal>
-    ensures { MatchResult result (λ _. Fit places blocks (N.Nvm.meaning nvm.now) (D.Disk.meaning disk.now) head tail) (λ _. Fit places blocks (N.Nvm.meaning nvm.now) (D.Disk.meaning disk.now) head tail → ⊥) }
+fn check_fit<N: Nvm, D: Disk>(nvm: &N, disk: &D, ring: Ring, blocks: usize) -> Result<(), Refusal>
+    ensures { MatchResult result (λ _. Fit ring.places blocks (N.Nvm.meaning nvm.now) (D.Disk.meaning disk.now) ring.head ring.tail) (λ _. Fit ring.places blocks (N.Nvm.meaning nvm.now) (D.Disk.meaning disk.now) ring.head ring.tail → ⊥) }
 {
-    if nvm.is_dark() || disk.is_dark() {
-        return Err(Refusal::Dark);
-    }
-    if !is_ring(places, head, tail) || blocks > MOST_BLOCKS {
+    check_power(nvm, disk)?;
+    if !ring.is_valid() || blocks > MOST_BLOCKS {
         return Err(Refusal::Beyond);
     }
-    if nvm.units() <= places || disk.blocks() < blocks {
+    if nvm.units() <= ring.places || disk.blocks() < blocks {
         return Err(Refusal::Beyond);
     }
     Ok(())
@@ -47,23 +39,21 @@ fn check_fit<N: Nvm, D: Disk>(
 pub fn checkpoint_devices<N: Nvm, D: Disk>(
     nvm: &mut N,
     disk: &mut D,
-    places: usize,
+    ring: Ring,
     blocks: usize,
-    head: usize,
-    tail: usize,
     rows: &mut Rows,
     buf: &mut [u64; 512],
 ) -> Result<usize, Refusal>
-    ensures ran { (ts : List Transaction) → Ready places blocks (N.Nvm.meaning nvm.old) (D.Disk.meaning disk.old) head tail ts → tail_of (words_of (N.Nvm.meaning nvm.old)) ≡ tail → RanPair (both (N.Nvm.meaning nvm.old) (D.Disk.meaning disk.old)) (checkpoint_acts blocks (words_of (N.Nvm.meaning nvm.old)) ts (sectors_of (D.Disk.meaning disk.old))) result (both (N.Nvm.meaning nvm.new) (D.Disk.meaning disk.new)) }
-    ensures counted { (ts : List Transaction) → Ready places blocks (N.Nvm.meaning nvm.old) (D.Disk.meaning disk.old) head tail ts → IfOk result (λ k. k ≡ named_blocks blocks ts) }
+    ensures ran { (ts : List Transaction) → Ready ring.places blocks (N.Nvm.meaning nvm.old) (D.Disk.meaning disk.old) ring.head ring.tail ts → tail_of (words_of (N.Nvm.meaning nvm.old)) ≡ ring.tail → RanPair (both (N.Nvm.meaning nvm.old) (D.Disk.meaning disk.old)) (checkpoint_acts blocks (words_of (N.Nvm.meaning nvm.old)) ts (sectors_of (D.Disk.meaning disk.old))) result (both (N.Nvm.meaning nvm.new) (D.Disk.meaning disk.new)) }
+    ensures counted { (ts : List Transaction) → Ready ring.places blocks (N.Nvm.meaning nvm.old) (D.Disk.meaning disk.old) ring.head ring.tail ts → IfOk result (λ k. k ≡ named_blocks blocks ts) }
 {
-    check_fit(nvm, disk, places, blocks, head, tail)?;
+    check_fit(nvm, disk, ring, blocks)?;
     let source = Loads(nvm);
-    gather(&source, places, blocks, head, tail, rows)?;
+    gather(&source, ring, blocks, rows)?;
     if rows.is_empty() {
         return Ok(0);
     }
     let written = write_homes(nvm, disk, rows, blocks, buf)?;
-    seal(nvm, HEAD_WORD, tail as u64)?;
+    seal(nvm, HEAD_WORD, ring.tail as u64)?;
     Ok(written)
 }

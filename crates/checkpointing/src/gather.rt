@@ -1,7 +1,7 @@
 //! The rows of a ring, gathered by one walk back from its tail.
-ghost use Rattle.std.specs.Prelude.{◌≡◌, ℕ, ◌+◌, ◌-◌, ◌<◌, ◌≤◌, true, length, MatchResult};
+ghost use Rattle.std.specs.Prelude.{◌≡◌, ℕ, ◌+◌, ◌-◌, ◌<◌, ◌≤◌, length, MatchResult};
 ghost use Rattle.std.specs.Option.{option_map};
-ghost use Rattle.ringlaws.specs.Layout.{Contents, before, is_ring};
+ghost use Rattle.ringlaws.specs.Layout.{Contents, before};
 ghost use Rattle.ringlaws.specs.TxnInfo.{taken, count_limit};
 ghost use Rattle.ringlaws.specs.Newest.{index_of, or_else, newest};
 ghost use Rattle.ring.specs.Sources.{Agrees};
@@ -11,9 +11,9 @@ ghost use Rattle.checkpointing.specs.Rows.{place_in};
 use crate::rows::{Row, Rows};
 use refusal::reason::Refusal;
 use ring::source::Source;
-use ring::walk::step_back;
+use ring::walk::Walk;
 use ringunits::info::places_taken;
-use ringunits::places::{place_before, used_between};
+use ringunits::places::{Ring, place_before};
 
 /// Adds the rows of the transaction that ends before a place and sets the records with these numbers.
 fn add_rows(rows: &mut Rows, places: usize, place: usize, numbers: &[u64])
@@ -35,23 +35,18 @@ fn add_rows(rows: &mut Rows, places: usize, place: usize, numbers: &[u64])
 /// Gathers the rows of a ring, or answers why the ring cannot be walked.
 pub fn gather<S: Source>(
     source: &S,
-    places: usize,
+    ring: Ring,
     blocks: usize,
-    head: usize,
-    tail: usize,
     rows: &mut Rows,
 ) -> Result<(), Refusal>
-    requires { is_ring places head tail ≡ true }
-    ensures { MatchResult result (λ _. (c : Contents) → Agrees (S.reads source.now) c → (r : ℕ) → newest places c head tail r ≡ place_in rows.new r) (λ e. WhyRefused (S.reads source.now) places blocks head tail e) }
+    ensures { MatchResult result (λ _. (c : Contents) → Agrees (S.reads source.now) c → (r : ℕ) → newest ring.places c ring.head ring.tail r ≡ place_in rows.new r) (λ e. WhyRefused (S.reads source.now) ring.places blocks ring.head ring.tail e) }
 {
     rows.clear();
-    let mut place = tail;
-    let mut left = used_between(places, head, tail);
-    while left > 0 {
-        let step = step_back(source, places, blocks, place, left)?;
-        add_rows(rows, places, place, &step.info[..step.count]);
-        place = step.first;
-        left = step.left;
+    let mut walk = Walk::from_tail(source, ring, blocks)?;
+    let mut end = ring.tail;
+    while let Some(step) = walk.step()? {
+        add_rows(rows, ring.places, end, step.numbers());
+        end = step.first;
     }
     Ok(())
 }
