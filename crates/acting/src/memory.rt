@@ -12,8 +12,8 @@ pub(crate) fn store_words<N: Nvm>(nvm: &mut N, first: usize, words: &[u64]) -> R
     requires { first + length words.now < 2 ^ 64 }
     ensures { RanOn nvm_rules (N.meaning nvm.old) (storing first words.now) result (N.meaning nvm.new) }
 {
-    for i in 0..words.len() {
-        nvm.store(first + i, words[i])?;
+    for (i, word) in words.iter().enumerate() {
+        nvm.store(first + i, *word)?;
     }
     Ok(())
 }
@@ -23,8 +23,8 @@ pub(crate) fn flush_lines<N: Nvm>(nvm: &mut N, first: usize, count: usize) -> Re
     requires { first + count < 2 ^ 64 }
     ensures { RanOn nvm_rules (N.meaning nvm.old) (flushing first count) result (N.meaning nvm.new) }
 {
-    for i in 0..count {
-        nvm.flush(first + i)?;
+    for line in first..first + count {
+        nvm.flush(line)?;
     }
     Ok(())
 }

@@ -88,12 +88,12 @@ pub checkpoint_stepped : {R : Type 0} (kind : Kind R) (nvm : NvmMeaning) (disk :
     → RanOrCut (both nvm disk) (checkpoint_acts disk.size (words_of nvm) (ring (seen nvm disk state list)) (sectors_of disk)) r (both n d)
     → IfOk r (λ k. k ≡ named_blocks disk.size (ring (seen nvm disk state list)))
     → Step kind (seen nvm disk state list) Checkpoint (blocks_answer r) (seen n d state list)
-checkpoint_stepped {R} kind nvm disk state list lit also mounted n d (Ok k) ran count =
+checkpoint_stepped {R} kind nvm disk state list lit also mounted n d (Ok k) ran counted =
     let m : Machine = seen nvm disk state list in
     by_plan kind m Checkpoint (checkpoint_plan kind m (Blocks (named_blocks (blocks_of m) (ring m))) state) (Blocks k) (seen n d state list)
     (ap (λ (v : Option Refusal). plan_by kind m v Checkpoint) (passes kind state mounted))
-    (record { before = neither_dark nvm.dark disk.dark lit also; says = ap Blocks count; acts = ran; state = refl; list = refl })
-checkpoint_stepped {R} kind nvm disk state list lit also mounted n d (Err e) ran count =
+    (record { before = neither_dark nvm.dark disk.dark lit also; says = ap Blocks counted; acts = ran; state = refl; list = refl })
+checkpoint_stepped {R} kind nvm disk state list lit also mounted n d (Err e) ran _ =
     let m : Machine = seen nvm disk state list in
     cut_by_plan kind m Checkpoint (checkpoint_plan kind m (Blocks (named_blocks (blocks_of m) (ring m))) state) (Refused e) (seen n d state list)
     (ap (λ (v : Option Refusal). plan_by kind m v Checkpoint) (passes kind state mounted))

@@ -9,6 +9,7 @@ ghost use Rattle.order.specs.Order.{InOrder, kind_of};
 ghost use Rattle.calling.specs.Seen.{seen, done_answer, blocks_answer, if_done};
 
 use crate::ends::ring_ends;
+use acting::both::check_power;
 use checkpointing::devices::{Rows, checkpoint_devices};
 use device::disk::Disk;
 use device::nvm::Nvm;
@@ -26,19 +27,8 @@ pub fn checkpoint_call<K: RecordKind, N: Nvm, D: Disk>(
     ensures checkpoint { (state : State) (list : Transaction) → (state ≢ Unmounted) → InOrder (seen (N.Nvm.meaning nvm.old) (D.Disk.meaning disk.old) state list) → Step (kind_of K.RecordKind.unit K.RecordKind.reads) (seen (N.Nvm.meaning nvm.old) (D.Disk.meaning disk.old) state list) Checkpoint (blocks_answer result) (seen (N.Nvm.meaning nvm.new) (D.Disk.meaning disk.new) state list) }
     ensures close { (list : Transaction) → InOrder (seen (N.Nvm.meaning nvm.old) (D.Disk.meaning disk.old) Idle list) → Step (kind_of K.RecordKind.unit K.RecordKind.reads) (seen (N.Nvm.meaning nvm.old) (D.Disk.meaning disk.old) Idle list) Close (done_answer result) (seen (N.Nvm.meaning nvm.new) (D.Disk.meaning disk.new) (if_done result Unmounted Idle) list) }
 {
-    if nvm.is_dark() || disk.is_dark() {
-        return Err(Refusal::Dark);
-    }
-    let ends = ring_ends(nvm)?;
+    check_power(nvm, disk)?;
+    let ring = ring_ends(nvm)?;
     let blocks = disk.blocks();
-    checkpoint_devices(
-        nvm,
-        disk,
-        ends.places,
-        blocks,
-        ends.head,
-        ends.tail,
-        rows,
-        buf,
-    )
+    checkpoint_devices(nvm, disk, ring, blocks, rows, buf)
 }

@@ -4,22 +4,23 @@ ghost use Rattle.device.specs.Words.{words_of};
 ghost use Rattle.ringlaws.specs.Layout.{head_of, tail_of, most_places};
 ghost use Rattle.calls.specs.Plans.{mount_refusal};
 
-use crate::ends::{Ends, ring_ends};
+use crate::ends::ring_ends;
 use checkpointing::loads::Loads;
 use device::nvm::Nvm;
 use refusal::reason::Refusal;
 use ring::walk::check;
 use ringunits::header::{BLOCKS_WORD, GROUND_MARK, GROUND_WORD, PLACES_WORD};
+use ringunits::places::Ring;
 
 /// Why a memory with power and so many places is not mounted beside a disk of so many blocks: no ground mark, a wrong header, an
 /// unsound ring, asked in this order. Else head and tail.
-pub fn check_contents<N: Nvm>(nvm: &N, places: usize, blocks: usize) -> Result<Ends, Refusal>
+pub fn check_contents<N: Nvm>(nvm: &N, places: usize, blocks: usize) -> Result<Ring, Refusal>
     requires lit { (N.meaning nvm.now).dark ≡ false }
     requires size { (N.meaning nvm.now).size ≡ places + 1 }
     requires most { places ≤ most_places }
     ensures { MatchResult result (λ e. (mount_refusal places blocks (words_of (N.meaning nvm.now)) ≡ None) × (e.places ≡ places) × (e.head ≡ head_of (words_of (N.meaning nvm.now))) × (e.tail ≡ tail_of (words_of (N.meaning nvm.now)))) (λ e. mount_refusal places blocks (words_of (N.meaning nvm.now)) ≡ Some e) }
 {
-    let ends = ring_ends(nvm)?;
+    let ring = ring_ends(nvm)?;
     let mark = nvm.load(GROUND_WORD)?;
     if mark != GROUND_MARK {
         return Err(Refusal::NoGroundMark);
@@ -29,10 +30,10 @@ pub fn check_contents<N: Nvm>(nvm: &N, places: usize, blocks: usize) -> Result<E
     if named_places != places as u64 || named_blocks != blocks as u64 {
         return Err(Refusal::BadHeader);
     }
-    if ends.head >= places || ends.tail >= places {
+    if ring.head >= places || ring.tail >= places {
         return Err(Refusal::BadHeader);
     }
     let source = Loads(nvm);
-    check(&source, places, blocks, ends.head, ends.tail)?;
-    Ok(ends)
+    check(&source, ring, blocks)?;
+    Ok(ring)
 }

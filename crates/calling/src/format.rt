@@ -8,6 +8,7 @@ ghost use Rattle.order.specs.Order.{kind_of};
 ghost use Rattle.calling.specs.Seen.{seen, done_answer, if_done};
 
 use crate::sizes::fit_sizes;
+use acting::both::check_power;
 use acting::format::format_devices;
 use device::disk::Disk;
 use device::nvm::Nvm;
@@ -18,9 +19,7 @@ use refusal::reason::Refusal;
 pub fn format_call<K: RecordKind, N: Nvm, D: Disk>(nvm: &mut N, disk: &mut D) -> Result<(), Refusal>
     ensures { (list : Transaction) → Step (kind_of K.RecordKind.unit K.RecordKind.reads) (seen (N.Nvm.meaning nvm.old) (D.Disk.meaning disk.old) Unmounted list) Format (done_answer result) (seen (N.Nvm.meaning nvm.new) (D.Disk.meaning disk.new) Unmounted (if_done result [] list)) }
 {
-    if nvm.is_dark() || disk.is_dark() {
-        return Err(Refusal::Dark);
-    }
+    check_power(nvm, disk)?;
     let units = nvm.units();
     let blocks = disk.blocks();
     if !fit_sizes(units, blocks) {

@@ -9,6 +9,7 @@ ghost use Rattle.calling.specs.Seen.{seen};
 ghost use Rattle.calling.specs.Reading.{unit_read};
 
 use crate::ends::ring_ends;
+use acting::both::check_power;
 use checkpointing::read::read_unit;
 use device::disk::Disk;
 use device::nvm::Nvm;
@@ -24,9 +25,7 @@ pub fn read_call<N: Nvm, D: Disk>(
 ) -> Result<[u64; 32], Refusal>
     ensures { (state : State) (list : Transaction) → (state ≢ Unmounted) → InOrder (seen (N.Nvm.meaning nvm.now) (D.Disk.meaning disk.now) state list) → own ≡ setting_of list number → result ≡ unit_read (seen (N.Nvm.meaning nvm.now) (D.Disk.meaning disk.now) state list) number }
 {
-    if nvm.is_dark() || disk.is_dark() {
-        return Err(Refusal::Dark);
-    }
+    check_power(nvm, disk)?;
     let blocks = disk.blocks();
     if number / 16 >= blocks as u64 {
         return Err(Refusal::NoSuchRecord);
@@ -34,14 +33,6 @@ pub fn read_call<N: Nvm, D: Disk>(
     if let Some(unit) = own {
         return Ok(unit);
     }
-    let ends = ring_ends(nvm)?;
-    read_unit(
-        nvm,
-        disk,
-        ends.places,
-        ends.head,
-        ends.tail,
-        number as usize,
-        buf,
-    )
+    let ring = ring_ends(nvm)?;
+    read_unit(nvm, disk, ring, number as usize, buf)
 }

@@ -1,23 +1,26 @@
 -- The rows of a ring name what its transactions name. Assumes nothing.
-use Rattle.std.proofs.Common.{◌≡◌, ℕ, zero, suc, ◌+◌, ◌<◌, Bool, true, false, cond, ◌||◌, eqb, List, [], ◌∷◌, get_or, Some, None, Option, sym, refl, ap, ◌∙◌, arith}
+use Rattle.std.proofs.Common.{◌≡◌, ℕ, zero, suc, ◌+◌, Bool, true, false, cond, ◌||◌, eqb, List, [], ◌∷◌, Some, None, Option, sym, refl, ap, ◌∙◌, arith}
 use Rattle.std.specs.Option.{option_map}
 use Rattle.std.proofs.lemmas.Bool.{or_parts, eq-eqb, eqb-true}
-use Rattle.device.specs.Sectors.{any_below}
 use Rattle.ringlaws.specs.Layout.{Contents, place_at, home_block}
 use Rattle.ringlaws.specs.TxnInfo.{Transaction}
 use Rattle.ringlaws.specs.Spells.{AllFair}
 use Rattle.ringlaws.specs.Newest.{setting_of, or_else, latest}
 use Rattle.calls.specs.Table.{names_in, is_named}
 use Rattle.calls.specs.Acts.{named_blocks}
-use Rattle.checkpointing.specs.Rows.{place_in, home_of_one, chosen_below}
-use Rattle.checkpointing.proofs.Rowing.{row_found, row_finds}
-use Rattle.checkpointing.proofs.Nexts.{any_witness, any_true}
-
-never : true ≡ false → ⊥
-never e = let z : ◌≡◌ {A = ℕ} 0 1 = cc in omega arith
+use Rattle.checkpointing.specs.declared.rows.Row.{Row}
+use Rattle.checkpointing.specs.Rows.{place_in, is_home, chosen_below}
+use Rattle.checkpointing.proofs.Rowing.{first_row}
+use Rattle.checkpointing.proofs.Nexts.{never}
 
 not_some : {X : Type 0} (x : X) → ◌≡◌ {A = Option X} (Some x) None → ⊥
 not_some x e = let z : ◌≡◌ {A = ℕ} 0 1 = cc in omega arith
+
+-- a first row is its record's
+first_placed : (row : Row) (rows : List Row) → place_in (row ∷ rows) row.number ≡ None → ⊥
+first_placed row rows n =
+    not_some row.place
+    (sym (ap (λ x. cond x (Some row.place) (place_in rows row.number)) (eq-eqb row.number row.number refl)) ∙ sym (first_row row rows row.number) ∙ n)
 
 -- where no home of the record's block is named, no transaction sets the record
 unnamed_setting : (t : Transaction) (r : ℕ) → names_in t (home_block r) ≡ false → setting_of t r ≡ None
@@ -40,10 +43,10 @@ unnamed_latest (t ∷ ts) r e =
     ap (λ o. or_else o (setting_of t r)) (unnamed_latest ts r parts.1) ∙ unnamed_setting t r parts.0
 
 -- a named block is home to a record that is set
-abbrev Set : (ℕ → Option (List ℕ)) → ℕ → Type 0
-Set units b = (r : ℕ) × (home_block r ≡ b) × (units r ≡ None → ⊥)
+abbrev Set : {X : Type 0} → (ℕ → Option X) → ℕ → Type 0
+Set values b = (r : ℕ) × (home_block r ≡ b) × (values r ≡ None → ⊥)
 
-either : (u : List ℕ) (o : Option (List ℕ)) → (o ≡ None → ⊥) → (x : Bool) → cond x (Some u) o ≡ None → ⊥
+either : {X : Type 0} (u : X) (o : Option X) → (o ≡ None → ⊥) → (x : Bool) → cond x (Some u) o ≡ None → ⊥
 either u o some true n = not_some u n
 either u o some false n = some n
 
@@ -78,59 +81,66 @@ named_latest (t ∷ ts) b e = by_test (names_in t b) refl e (λ h. named_latest 
     by_test true i h rec = let (r, home, some) = named_setting t b i in (r, home, first (latest ts r) (setting_of t r) some)
     by_test false i h rec = let (r, home, some) = rec h in (r, home, second (latest ts r) (setting_of t r) some)
 
--- rows whose places hold the latest units
-module _ (c : Contents) (ts : List Transaction) (ns ps : List ℕ) (n : ℕ) (h : (r : ℕ) → option_map (place_at c) (place_in ns ps n r) ≡ latest ts r) where
-  none_latest : (r : ℕ) → place_in ns ps n r ≡ None → latest ts r ≡ None
-  none_latest r e = sym (h r) ∙ ap (option_map (place_at c)) e
+-- the same of rows: where the record's home is none of theirs, no row is the record's; a home of theirs is home to a record with a place
+unplaced : (rows : List Row) (r : ℕ) → is_home rows (home_block r) ≡ false → place_in rows r ≡ None
+unplaced [] r e = refl
+unplaced (row ∷ rows) r e = first_row row rows r ∙ by_test (eqb r row.number) refl (λ h. unplaced rows r h)
+  where
+    parts : (eqb (home_block row.number) (home_block r) ≡ false) × (is_home rows (home_block r) ≡ false)
+    parts = or_parts (eqb (home_block row.number) (home_block r)) (is_home rows (home_block r)) e
 
-  none_row : (r : ℕ) → latest ts r ≡ None → place_in ns ps n r ≡ None
-  none_row r e = by_row (place_in ns ps n r) (h r ∙ e)
+    by_test : (b : Bool) → eqb r row.number ≡ b → (is_home rows (home_block r) ≡ false → place_in rows r ≡ None) → cond b (Some row.place) (place_in rows r) ≡ None
+    by_test true i rec = absurd (never (sym (eq-eqb (home_block row.number) (home_block r) (ap home_block (sym (eqb-true r row.number i)))) ∙ parts.0))
+    by_test false i rec = rec parts.1
+
+placed : (rows : List Row) (b : ℕ) → is_home rows b ≡ true → Set (place_in rows) b
+placed [] b e = absurd (never (sym e))
+placed (row ∷ rows) b e = by_test (eqb (home_block row.number) b) refl e (λ h. placed rows b h)
+  where
+    by_test : (x : Bool) → eqb (home_block row.number) b ≡ x → x || is_home rows b ≡ true → (is_home rows b ≡ true → Set (place_in rows) b) → Set (place_in (row ∷ rows)) b
+    by_test true i h rec = (row.number, eqb-true (home_block row.number) b i, first_placed row rows)
+    by_test false i h rec =
+        let (r, home, some) = rec h in
+        (r, home, (λ n. either row.place (place_in rows r) some (eqb r row.number) (sym (first_row row rows r) ∙ n)))
+
+-- rows whose places hold the latest units
+module _ (c : Contents) (ts : List Transaction) (rows : List Row) (held : (r : ℕ) → option_map (place_at c) (place_in rows r) ≡ latest ts r) where
+  none_latest : (r : ℕ) → place_in rows r ≡ None → latest ts r ≡ None
+  none_latest r e = sym (held r) ∙ ap (option_map (place_at c)) e
+
+  none_row : (r : ℕ) → latest ts r ≡ None → place_in rows r ≡ None
+  none_row r e = by_row (place_in rows r) (held r ∙ e)
     where
       by_row : (o : Option ℕ) → option_map (place_at c) o ≡ None → o ≡ None
       by_row None f = refl
       by_row (Some p) f = absurd (not_some (place_at c p) f)
 
-  row_named : (b : ℕ) → home_of_one ns n b ≡ true → is_named ts b ≡ false → ⊥
-  row_named b on off =
-      let (i, lt, q) = any_witness (λ i. eqb (home_block (get_or ns i 0)) b) n on in
-      let home : home_block (get_or ns i 0) ≡ b = eqb-true _ b q in
-      row_finds ns ps n i lt (none_row (get_or ns i 0) (unnamed_latest ts (get_or ns i 0) (ap (is_named ts) home ∙ off)))
-
-  named_row : (b : ℕ) → is_named ts b ≡ true → home_of_one ns n b ≡ true
-  named_row b on = let (r, home, some) = named_latest ts b on in by_row r home some (place_in ns ps n r) refl
+  pub rows_named : (b : ℕ) → is_home rows b ≡ is_named ts b
+  rows_named b = by_tests (is_home rows b) refl (is_named ts b) refl
     where
-      by_row : (r : ℕ) → home_block r ≡ b → (latest ts r ≡ None → ⊥) → (o : Option ℕ) → place_in ns ps n r ≡ o → home_of_one ns n b ≡ true
-      by_row r home some None e = absurd (some (none_latest r e))
-      by_row r home some (Some p) e =
-          let (i, lt, q) = row_found ns ps n r p e in
-          any_true (λ i. eqb (home_block (get_or ns i 0)) b) n i lt (eq-eqb _ b (ap home_block (sym q) ∙ home))
-
-  pub rows_named : (b : ℕ) → home_of_one ns n b ≡ is_named ts b
-  rows_named b = by_tests (home_of_one ns n b) refl (is_named ts b) refl
-    where
-      by_tests : (t : Bool) → home_of_one ns n b ≡ t → (u : Bool) → is_named ts b ≡ u → t ≡ u
+      by_tests : (t : Bool) → is_home rows b ≡ t → (u : Bool) → is_named ts b ≡ u → t ≡ u
       by_tests true e true f = refl
       by_tests false e false f = refl
-      by_tests true e false f = absurd (row_named b e f)
-      by_tests false e true f = absurd (never (sym (named_row b f) ∙ e))
+      by_tests true e false f = let (r, home, some) = placed rows b e in absurd (some (none_row r (unnamed_latest ts r (ap (is_named ts) home ∙ f))))
+      by_tests false e true f = let (r, home, some) = named_latest ts b f in absurd (some (none_latest r (unplaced rows r (ap (is_home rows) home ∙ e))))
 
   -- as many blocks are home to a row as are named
-  pub rows_counted : (B : ℕ) → chosen_below (home_of_one ns n) B ≡ named_blocks B ts
+  pub rows_counted : (B : ℕ) → chosen_below (is_home rows) B ≡ named_blocks B ts
   unfolding chosen_below named_blocks
   rows_counted zero = refl
-  rows_counted (suc b) = ap (λ x. x + cond (home_of_one ns n b) 1 0) (rows_counted b) ∙ ap (λ t. named_blocks b ts + cond t 1 0) (rows_named b)
+  rows_counted (suc b) = ap (λ x. x + cond (is_home rows b) 1 0) (rows_counted b) ∙ ap (λ t. named_blocks b ts + cond t 1 0) (rows_named b)
 
 -- no rows, no transactions
-pub rows_none : (B : ℕ) (c : Contents) (ts : List Transaction) (ns ps : List ℕ) → AllFair B ts → ((r : ℕ) → option_map (place_at c) (place_in ns ps 0 r) ≡ latest ts r) → ts ≡ []
-unfolding is_named names_in any_below
-rows_none B c [] ns ps fair h = refl
-rows_none B c ([] ∷ ts) ns ps (f, fair) h = let l = f.least in absurd (omega arith)
-rows_none B c ((s ∷ t) ∷ ts) ns ps fair h =
+pub rows_none : (B : ℕ) (c : Contents) (ts : List Transaction) → AllFair B ts → ((r : ℕ) → option_map (place_at c) (place_in [] r) ≡ latest ts r) → ts ≡ []
+unfolding is_named names_in
+rows_none B c [] fair held = refl
+rows_none B c ([] ∷ ts) (f, fair) held = let l = f.least in absurd (omega arith)
+rows_none B c ((s ∷ t) ∷ ts) fair held =
     let on : is_named ((s ∷ t) ∷ ts) (home_block s.number) ≡ true =
     ap (λ x. (x || names_in t (home_block s.number)) || is_named ts (home_block s.number)) (eq-eqb (home_block s.number) (home_block s.number) refl) in
-    absurd (never (sym on ∙ sym (rows_named c ((s ∷ t) ∷ ts) ns ps 0 h (home_block s.number))))
+    absurd (never (sym on ∙ sym (rows_named c ((s ∷ t) ∷ ts) [] held (home_block s.number))))
 
 -- rows, then transactions
-pub rows_some : (c : Contents) (ns ps : List ℕ) (n : ℕ) → 0 < n → ((r : ℕ) → option_map (place_at c) (place_in ns ps n r) ≡ latest [] r) → ⊥
+pub rows_some : (c : Contents) (row : Row) (rows : List Row) → ((r : ℕ) → option_map (place_at c) (place_in (row ∷ rows) r) ≡ latest [] r) → ⊥
 unfolding latest
-rows_some c ns ps n lt h = row_finds ns ps n 0 lt (none_row c [] ns ps n h (get_or ns 0 0) refl)
+rows_some c row rows held = first_placed row rows (none_row c [] (row ∷ rows) held row.number refl)

@@ -1,85 +1,121 @@
 -- The next block that is home to a gathered record. Assumes nothing.
-use Rattle.std.proofs.Common.{◌≡◌, ℕ, zero, suc, ◌+◌, ◌-◌, ◌/◌, ◌<◌, ◌≤◌, Bool, true, false, cond, ◌&&◌, ◌||◌, eqb, ltb, leb, ◌⊎◌, List, get_or, sym, refl, ap, ◌∙◌, subst, inl, inr, not-suc-le-zero, arith}
+use Rattle.std.proofs.Common.{◌≡◌, ℕ, ◌+◌, ◌-◌, ◌<◌, ◌≤◌, Bool, true, false, cond, eqb, leb, ltb, ◌&&◌, ◌||◌, ◌⊎◌, min, List, [], ◌∷◌, Option, MatchOption, sym, refl, ap, ◌∙◌, subst, inl, inr, arith}
+use Rattle.std.specs.List.{filter, fold, list_any, reduce}
+use Rattle.std.proofs.Math.Nat.{min-le_left, min-le_right}
 use Rattle.std.proofs.lemmas.Bool.Decides.{nat_tests}
-use Rattle.std.proofs.lemmas.Bool.{cases_eq, cases_lt, eq-eqb, eqb-true}
-use Rattle.device.specs.Sectors.{any_below}
-use Rattle.ringlaws.specs.Layout.{home_block}
-use Rattle.checkpointing.specs.Rows.{home_of_one, nearer, Next}
+use Rattle.std.proofs.lemmas.Bool.{eq-eqb, eqb-true}
+use Rattle.checkpointing.specs.declared.rows.Row.{Row}
+use Rattle.checkpointing.specs.Rows.{homes, is_home, NoneHome, Next}
 
-pub any_witness : (f : ℕ → Bool) (n : ℕ) → any_below f n ≡ true → (k : ℕ) × (k < n) × (f k ≡ true)
-unfolding any_below
-any_witness f zero e = let z : ◌≡◌ {A = ℕ} 0 1 = cc in absurd (omega arith)
-any_witness f (suc n) e = by_test (f n) refl (any_witness f n) e
+pub never : true ≡ false → ⊥
+never e = let z : ◌≡◌ {A = ℕ} 0 1 = cc in omega arith
+
+or_true : (t : Bool) → t || true ≡ true
+or_true true = refl
+or_true false = refl
+
+-- b is one of the numbers
+abbrev Has : List ℕ → ℕ → Type 0
+Has xs b = list_any (λ x. eqb x b) xs ≡ true
+
+has_first : (x : ℕ) (xs : List ℕ) (b : ℕ) → x ≡ b → Has (x ∷ xs) b
+has_first x xs b e = ap (λ t. t || list_any (λ y. eqb y b) xs) (eq-eqb x b e)
+
+has_later : (x : ℕ) (xs : List ℕ) (b : ℕ) → Has xs b → Has (x ∷ xs) b
+has_later x xs b h = ap (λ t. eqb x b || t) h ∙ or_true (eqb x b)
+
+has_one : (x : ℕ) (xs : List ℕ) (b : ℕ) → Has (x ∷ xs) b → (x ≡ b) ⊎ Has xs b
+has_one x xs b h = by_test (eqb x b) refl h
   where
-    by_test : (t : Bool) → f n ≡ t → (any_below f n ≡ true → (k : ℕ) × (k < n) × (f k ≡ true)) → t || any_below f n ≡ true → (k : ℕ) × (k < suc n) × (f k ≡ true)
-    by_test true i rec h = (n, omega arith, i)
-    by_test false i rec h = let (k, l, q) = rec h in (k, omega arith, q)
+    by_test : (t : Bool) → eqb x b ≡ t → t || list_any (λ y. eqb y b) xs ≡ true → (x ≡ b) ⊎ Has xs b
+    by_test true e g = inl (eqb-true x b e)
+    by_test false e g = inr g
 
-pub any_true : (f : ℕ → Bool) (n k : ℕ) → k < n → f k ≡ true → any_below f n ≡ true
-unfolding any_below
-any_true f zero k lt e = absurd (not-suc-le-zero lt)
-any_true f (suc n) k lt e = elim (cases_eq k n) [
-  | inl q ↦ ap (λ t. t || any_below f n) (ap f (sym q) ∙ e)
-  | inr ne ↦ ap (λ t. f n || t) (any_true f n k (omega arith) e) ∙ or_true (f n)
+-- the least of numbers is none above any, and is one of them
+fold_below : (a : ℕ) (xs : List ℕ) → fold min a xs ≤ a
+fold_below a [] = omega arith
+fold_below a (x ∷ xs) = let h = fold_below (min a x) xs in let m = min-le_left a x in omega arith
+
+fold_least : (a : ℕ) (xs : List ℕ) (b : ℕ) → Has xs b → fold min a xs ≤ b
+fold_least a [] b h = absurd (never (sym h))
+fold_least a (x ∷ xs) b h = elim (has_one x xs b h) [
+  | inl e ↦ (let l = fold_below (min a x) xs in let m = min-le_right a x in omega arith)
+  | inr g ↦ fold_least (min a x) xs b g
+]
+
+fold_one : (a : ℕ) (xs : List ℕ) → (fold min a xs ≡ a) ⊎ Has xs (fold min a xs)
+fold_one a [] = inl refl
+fold_one a (x ∷ xs) = elim (fold_one (min a x) xs) [
+  | inl e ↦ elim (either a x) [
+    | inl q ↦ inl (e ∙ q)
+    | inr q ↦ inr (has_first x xs (fold min (min a x) xs) (sym (e ∙ q)))
+  ]
+  | inr h ↦ inr (has_later x xs (fold min (min a x) xs) h)
 ]
   where
-    or_true : (t : Bool) → t || true ≡ true
-    or_true true = refl
-    or_true false = refl
+    either : (a b : ℕ) → (min a b ≡ a) ⊎ (min a b ≡ b)
+    either a b = grind (arith)
 
-homes_more : (ns : List ℕ) (n b : ℕ) → home_of_one ns n b ≡ true → home_of_one ns (n + 1) b ≡ true
-homes_more ns n b e = let (k, l, q) = any_witness (λ i. eqb (home_block (get_or ns i 0)) b) n e in any_true (λ i. eqb (home_block (get_or ns i 0)) b) (n + 1) k (omega arith) q
+-- what passes a test
+module _ (test : ℕ → Bool) where
+  passed : (xs : List ℕ) (b : ℕ) → test b ≡ true → Has xs b → Has (filter test xs) b
+  passed [] b on h = h
+  passed (x ∷ xs) b on h = by_test (test x) refl (has_one x xs b h) (λ g. passed xs b on g)
+    where
+      by_test : (t : Bool) → test x ≡ t → (x ≡ b) ⊎ Has xs b → (Has xs b → Has (filter test xs) b) → Has (cond t (x ∷ filter test xs) (filter test xs)) b
+      by_test true e (inl q) rec = has_first x (filter test xs) b q
+      by_test true e (inr g) rec = has_later x (filter test xs) b (rec g)
+      by_test false e (inl q) rec = absurd (never (sym on ∙ ap test (sym q) ∙ e))
+      by_test false e (inr g) rec = rec g
 
-homes_last : (ns : List ℕ) (n b : ℕ) → home_block (get_or ns n 0) ≡ b → home_of_one ns (n + 1) b ≡ true
-homes_last ns n b e = any_true (λ i. eqb (home_block (get_or ns i 0)) b) (n + 1) n (omega arith) (eq-eqb _ b e)
+  passes : (xs : List ℕ) (b : ℕ) → Has (filter test xs) b → Has xs b × (test b ≡ true)
+  passes [] b h = absurd (never (sym h))
+  passes (x ∷ xs) b h = by_test (test x) refl h (λ g. passes xs b g)
+    where
+      by_test : (t : Bool) → test x ≡ t → Has (cond t (x ∷ filter test xs) (filter test xs)) b → (Has (filter test xs) b → Has xs b × (test b ≡ true)) → Has (x ∷ xs) b × (test b ≡ true)
+      by_test true e g rec = elim (has_one x (filter test xs) b g) [
+        | inl q ↦ (has_first x xs b q, ap test (sym q) ∙ e)
+        | inr i ↦ (let (had, on) = rec i in (has_later x xs b had, on))
+      ]
+      by_test false e g rec = let (had, on) = rec g in (has_later x xs b had, on)
 
-pub next_none : (ns : List ℕ) (from limit : ℕ) → Next ns 0 from limit limit
-next_none ns from limit = record { most = omega arith; least = λ i l. absurd (not-suc-le-zero l); hit = λ l. absurd (omega arith) }
+-- the least home within the bounds is the next
+module _ (rows : List Row) (from limit : ℕ) where
+  abbrev test : ℕ → Bool
+  test b = leb from b && ltb b limit
 
-pub next_more : (ns : List ℕ) (n from limit best r : ℕ) → r ≡ nearer from best (get_or ns n 0 / 16) → Next ns n from limit best → Next ns (n + 1) from limit r
-next_more ns n from limit best r e h = by_test (leb from (get_or ns n 0 / 16) && ltb (get_or ns n 0 / 16) best) refl
-  where
-    by_test : (t : Bool) → leb from (get_or ns n 0 / 16) && ltb (get_or ns n 0 / 16) best ≡ t → Next ns (n + 1) from limit r
-    by_test true i =
-        let near : r ≡ get_or ns n 0 / 16 = e ∙ ap (λ t. cond t (get_or ns n 0 / 16) best) i in
-        let low : from ≤ get_or ns n 0 / 16 = grind (arith, nat_tests) in
-        let less : get_or ns n 0 / 16 < best = grind (arith, nat_tests) in
-        record {
-          most = omega (arith, h.most);
-          least = λ k l f g. elim (cases_eq k n) [
-            | inl q ↦ (let z : get_or ns k 0 ≡ get_or ns n 0 = ap (λ x. get_or ns x 0) q in omega arith)
-            | inr ne ↦ omega (arith, h.least k (omega arith) f g)
-          ];
-          hit = λ l. (omega arith, homes_last ns n r (sym near));
-        }
-    by_test false i =
-        let near : r ≡ best = e ∙ ap (λ t. cond t (get_or ns n 0 / 16) best) i in
-        let far : from ≤ get_or ns n 0 / 16 → best ≤ get_or ns n 0 / 16 = (λ f. grind (arith, nat_tests)) in
-        record {
-          most = omega (arith, h.most);
-          least = λ k l f g. elim (cases_eq k n) [
-            | inl q ↦ (let z : get_or ns k 0 ≡ get_or ns n 0 = ap (λ x. get_or ns x 0) q in omega (arith, far (omega arith)))
-            | inr ne ↦ omega (arith, h.least k (omega arith) f g)
-          ];
-          hit = λ l. (omega (arith, (h.hit (omega arith)).0), subst (λ (x : ℕ). home_of_one ns (n + 1) x ≡ true) (sym near) (homes_more ns n best (h.hit (omega arith)).1));
-        }
+  inside : (b : ℕ) → from ≤ b → b < limit → test b ≡ true
+  inside b l m = grind (arith, nat_tests)
 
--- no block between is home to one
-pub between_none : (ns : List ℕ) (n from limit r : ℕ) → Next ns n from limit r → (x : ℕ) → from ≤ x → x < r → home_of_one ns n x ≡ false
-between_none ns n from limit r h x le lt = by_test (home_of_one ns n x) refl
-  where
-    by_test : (t : Bool) → home_of_one ns n x ≡ t → t ≡ false
-    by_test true e =
-        let (i, l, q) = any_witness (λ i. eqb (home_block (get_or ns i 0)) x) n e in
-        let p : get_or ns i 0 / 16 ≡ x = eqb-true _ x q in
-        let m = h.most in
-        let z = h.least i l (omega arith) (omega arith) in
-        absurd (omega arith)
-    by_test false e = refl
+  bounds : (b : ℕ) → test b ≡ true → (from ≤ b) × (b < limit)
+  bounds b e = (grind (arith, nat_tests), grind (arith, nat_tests))
 
-pub next_falls : (ns : List ℕ) (n b limit r : ℕ) → b < limit → Next ns n (b + 1) limit r → limit - r < limit - b
-next_falls ns n b limit r lt h = by_end (cases_lt r limit)
-  where
-    by_end : (r < limit) ⊎ (limit ≤ r) → limit - r < limit - b
-    by_end (inl l) = let z = (h.hit l).0 in omega arith
-    by_end (inr l) = omega arith
+  -- blocks below all that pass are no homes
+  none_passes : (end : ℕ) → end ≤ limit → ((b : ℕ) → Has (filter test (homes rows)) b → end ≤ b) → NoneHome rows from end
+  none_passes end e all b l m = by_test (is_home rows b) refl
+    where
+      by_test : (t : Bool) → is_home rows b ≡ t → t ≡ false
+      by_test true h = let n = all b (passed test (homes rows) b (inside b l (omega arith)) h) in absurd (omega arith)
+      by_test false h = refl
+
+  by_list : (xs : List ℕ) → filter test (homes rows) ≡ xs → MatchOption (reduce min xs) (NoneHome rows from limit) (Next rows from limit)
+  by_list [] f = none_passes limit (omega arith) (λ b h. absurd (never (sym (subst (λ (ys : List ℕ). Has ys b) f h))))
+  by_list (x ∷ xs) f =
+      let one : Has (x ∷ xs) (fold min x xs) = elim (fold_one x xs) [ inl q ↦ has_first x xs (fold min x xs) (sym q) | inr h ↦ has_later x xs (fold min x xs) h ] in
+      let (home, on) = passes test (homes rows) (fold min x xs) (subst (λ (ys : List ℕ). Has ys (fold min x xs)) (sym f) one) in
+      let (least, most) = bounds (fold min x xs) on in
+      record {
+        least = least;
+        most = most;
+        home = home;
+        none = none_passes (fold min x xs) (omega arith) (λ b h. elim (has_one x xs b (subst (λ (ys : List ℕ). Has ys b) f h)) [
+          | inl q ↦ (let l = fold_below x xs in omega arith)
+          | inr g ↦ fold_least x xs b g
+        ]);
+      }
+
+  pub next_is : (o : Option ℕ) → o ≡ reduce min (filter test (homes rows)) → MatchOption o (NoneHome rows from limit) (Next rows from limit)
+  next_is o e = subst (λ (x : Option ℕ). MatchOption x (NoneHome rows from limit) (Next rows from limit)) (sym e) (by_list (filter test (homes rows)) refl)
+
+pub next_falls : (rows : List Row) (from limit b : ℕ) → Next rows from limit b → limit - (b + 1) < limit - from
+next_falls rows from limit b h = let l = h.least in let m = h.most in omega arith

@@ -1,7 +1,6 @@
 -- A checkpoint's writes, from named block to named block. Assumes nothing.
-use Rattle.std.proofs.Common.{◌≡◌, ℕ, zero, suc, ◌+◌, ◌-◌, ◌*◌, ◌/◌, ◌%◌, ◌<◌, ◌≤◌, Bool, true, false, cond, eqb, ◌⊎◌, List, [], ◌∷◌, ◌++◌, get_or, Option, sym, refl, ap, ◌∙◌, subst, inl, inr, append-nil, arith}
+use Rattle.std.proofs.Common.{◌≡◌, ℕ, zero, suc, ◌+◌, ◌-◌, ◌*◌, ◌/◌, ◌%◌, ◌<◌, ◌≤◌, Bool, true, false, cond, eqb, List, [], ◌∷◌, ◌++◌, get_or, Option, sym, refl, ap, ◌∙◌, subst, inl, inr, append-nil, arith}
 use Rattle.std.proofs.lemmas.Bool.Decides.{nat_tests}
-use Rattle.std.proofs.lemmas.Bool.{cases_lt}
 use Rattle.std.proofs.lemmas.List.FromFn.{length-map-range_with_len, get_or-map-range_with_len, fill_by_all}
 use Rattle.refusal.specs.declared.reason.Refusal.{Refusal}
 use Rattle.device.specs.Pieces.{unsettled, settled_value, present_value, MaySettle}
@@ -13,9 +12,9 @@ use Rattle.crash.proofs.Runs.{performed_one, performed_append, stopped_one, stop
 use Rattle.ringlaws.specs.Layout.{Contents, unit_at}
 use Rattle.ringunits.specs.Images.{contents_of}
 use Rattle.calls.specs.Table.{table_block}
-use Rattle.checkpointing.specs.Rows.{unit_from, row_units, home_of_one, Next, writing_blocks, chosen_below}
+use Rattle.checkpointing.specs.declared.rows.Row.{Row}
+use Rattle.checkpointing.specs.Rows.{place_in, unit_from, row_units, is_home, NoneHome, Next, writing_blocks, chosen_below}
 use Rattle.checkpointing.proofs.Loading.{block_word, home_in_block}
-use Rattle.checkpointing.proofs.Nexts.{between_none}
 
 -- a write leaves the present contents of every other block
 pub present_other : (k n : DiskMeaning) (b : ℕ) (ws : List ℕ) (s : ℕ) → Performs disk_rules k (Write b ws) n → (s / 8 ≡ b → ⊥) → sectors_of n s ≡ sectors_of k s
@@ -74,89 +73,77 @@ module _ (chosen : ℕ → Bool) (words : ℕ → List ℕ) where
   unfolding chosen_below
   count_on b on = let q : b + 1 ≡ suc b = omega arith in ap (chosen_below chosen) q ∙ ap (λ t. chosen_below chosen b + cond t 1 0) on
 
--- the loop over the named blocks of a disk that was m and is k now: b is the next of them, below n
-module _ (ns : List ℕ) (rows : ℕ) (c : Contents) (place : ℕ → Option ℕ) (m : DiskMeaning) where
-  abbrev pub chosen : ℕ → Bool
-  chosen b = home_of_one ns rows b
-
+-- the loop over the homes on a disk that was m and is k now, behind those below `from`
+module _ (rows : List Row) (c : Contents) (m : DiskMeaning) where
   abbrev pub words : ℕ → List ℕ
-  words b = table_block (row_units c place (sectors_of m)) b
+  words b = table_block (row_units c (place_in rows) (sectors_of m)) b
 
-  abbrev pub Going : ℕ → ℕ → ℕ → DiskMeaning → Type 0
-  Going n b count k =
-      PerformedOn disk_rules m (writing_blocks chosen words b) k
-      × (b ≤ n)
-      × (b < n → chosen b ≡ true)
-      × (count ≡ chosen_below chosen b)
-      × (count ≤ b)
-      × (k.dark ≡ m.dark)
-      × (k.size ≡ m.size)
-      × ((s : ℕ) → b ≤ s / 8 → sectors_of k s ≡ sectors_of m s)
+  pub record Going (limit from count : ℕ) (k : DiskMeaning) : Type 0 where
+    pub ran : PerformedOn disk_rules m (writing_blocks (is_home rows) words from) k
+    pub inside : from ≤ limit
+    pub counted : count ≡ chosen_below (is_home rows) from
+    pub few : count ≤ from
+    pub power : k.dark ≡ m.dark
+    pub size : k.size ≡ m.size
+    pub rest : (s : ℕ) → from ≤ s / 8 → sectors_of k s ≡ sectors_of m s
 
-  pub going_start : (n b : ℕ) → Next ns rows 0 n b → Going n b 0 m
+  pub going_start : (limit : ℕ) → Going limit 0 0 m
   unfolding each_of chosen_below
-  going_start n b h =
-      let (i, j) = skip chosen words 0 b (omega arith) (between_none ns rows 0 n b h) in (
-        subst (λ (acts : List DiskAct). PerformedOn disk_rules m acts m) (sym i) done,
-        h.most,
-        (λ l. (h.hit l).1),
-        sym j,
-        omega arith,
-        refl,
-        refl,
-        (λ s le. refl),
-      )
+  going_start limit = record { ran = done; inside = omega arith; counted = refl; few = omega arith; power = refl; size = refl; rest = λ s le. refl }
 
-  -- the turn of a chosen block is its write
-  one : (b : ℕ) → chosen b ≡ true → Write b (words b) ∷ [] ≡ cond (chosen b) (Write b (words b) ∷ []) []
-  one b on = sym (ap (λ t. cond t (Write b (words b) ∷ []) []) on)
+  module _ {limit from count : ℕ} {k : DiskMeaning} (h : Going limit from count k) where
+    -- the turn of the next home is its write
+    module _ (b : ℕ) (next : Next rows from limit b) where
+      passed : PerformedOn disk_rules m (writing_blocks (is_home rows) words b) k
+      passed =
+          let (i, j) = skip (is_home rows) words from b next.least next.none in
+          subst (λ (acts : List DiskAct). PerformedOn disk_rules m acts k) (sym i) h.ran
 
-  same_words : (n b count : ℕ) (k : DiskMeaning) → Going n b count k → table_block (row_units c place (sectors_of k)) b ≡ words b
-  same_words n b count k h = table_near c place (sectors_of m) (sectors_of k) b (λ s e. h.7 s (omega arith))
+      one : Write b (words b) ∷ [] ≡ cond (is_home rows b) (Write b (words b) ∷ []) []
+      one = sym (ap (λ t. cond t (Write b (words b) ∷ []) []) next.home)
 
-  pub going_on : (n b count : ℕ) (k k' : DiskMeaning) (b' : ℕ) → Going n b count k → b < n → Performs disk_rules k (Write b (table_block (row_units c place (sectors_of k)) b)) k'
-      → Next ns rows (b + 1) n b' → Going n b' (count + 1) k'
-  going_on n b count k k' b' h lt s next =
-      let on : chosen b ≡ true = h.2 lt in
-      let step : Performs disk_rules k (Write b (words b)) k' = subst (λ (ws : List ℕ). Performs disk_rules k (Write b ws) k') (same_words n b count k h) s in
-      let past : b + 1 ≤ b' = by_end (cases_lt b' n) in
-      let (i, j) = skip chosen words (b + 1) b' past (between_none ns rows (b + 1) n b' next) in
-      let turn : PerformedOn disk_rules k (cond (chosen b) (Write b (words b) ∷ []) []) k' = subst (λ (acts : List DiskAct). PerformedOn disk_rules k acts k') (one b on) (performed_one step) in
-      let more = count_on chosen words b on in
-      let count_is = h.3 in
-      let few = h.4 in (
-        subst (λ (acts : List DiskAct). PerformedOn disk_rules m acts k') (sym i) (loop_more (λ x. cond (chosen x) (Write x (words x) ∷ []) []) b h.0 turn),
-        next.most,
-        (λ l. (next.hit l).1),
-        omega (arith, more, j, count_is),
-        omega (arith, past, few),
-        step.power ∙ h.5,
-        step.size ∙ h.6,
-        (λ s le. present_other k k' b (words b) s step (λ e. omega (arith, e, le, past)) ∙ h.7 s (omega (arith, le, past))),
-      )
-    where
-      by_end : (b' < n) ⊎ (n ≤ b') → b + 1 ≤ b'
-      by_end (inl l) = (next.hit l).0
-      by_end (inr l) = omega (arith, lt)
+      same_words : table_block (row_units c (place_in rows) (sectors_of k)) b ≡ words b
+      same_words = let l = next.least in table_near c (place_in rows) (sectors_of m) (sectors_of k) b (λ s e. h.rest s (omega arith))
 
-  pub going_broken : (n b count : ℕ) (k k' : DiskMeaning) (e : Refusal) → Going n b count k → b < n → Refuses disk_rules k (Write b (table_block (row_units c place (sectors_of k)) b)) e k'
-      → HaltedOn disk_rules m (writing_blocks chosen words n ++ Sync ∷ []) e k'
-  going_broken n b count k k' e h lt s =
-      let on : chosen b ≡ true = h.2 lt in
-      let stop : Refuses disk_rules k (Write b (words b)) e k' = subst (λ (ws : List ℕ). Refuses disk_rules k (Write b ws) e k') (same_words n b count k h) s in
-      let turn : HaltedOn disk_rules k (cond (chosen b) (Write b (words b) ∷ []) []) e k' = subst (λ (acts : List DiskAct). HaltedOn disk_rules k acts e k') (one b on) (stopped_one stop) in
-      stopped_first (Sync ∷ []) (loop_stops (λ x. cond (chosen x) (Write x (words x) ∷ []) []) b n lt h.0 turn)
+      pub going_on : (k' : DiskMeaning) → Performs disk_rules k (Write b (table_block (row_units c (place_in rows) (sectors_of k)) b)) k' → Going limit (b + 1) (count + 1) k'
+      going_on k' s =
+          let step : Performs disk_rules k (Write b (words b)) k' = subst (λ (ws : List ℕ). Performs disk_rules k (Write b ws) k') same_words s in
+          let (i, j) = skip (is_home rows) words from b next.least next.none in
+          let turn : PerformedOn disk_rules k (cond (is_home rows b) (Write b (words b) ∷ []) []) k' = subst (λ (acts : List DiskAct). PerformedOn disk_rules k acts k') one (performed_one step) in
+          let more = count_on (is_home rows) words b next.home in
+          let counted = h.counted in
+          let few = h.few in
+          let least = next.least in
+          let most = next.most in
+          record {
+            ran = loop_more (λ x. cond (is_home rows x) (Write x (words x) ∷ []) []) b passed turn;
+            inside = omega arith;
+            counted = omega (arith, more, j);
+            few = omega arith;
+            power = step.power ∙ h.power;
+            size = step.size ∙ h.size;
+            rest = λ s le. present_other k k' b (words b) s step (λ e. omega arith) ∙ h.rest s (omega arith);
+          }
 
-  all : (n b count : ℕ) (k : DiskMeaning) → Going n b count k → n ≤ b → PerformedOn disk_rules m (writing_blocks chosen words n) k × (count ≡ chosen_below chosen n)
-  all n b count k h ge =
-      let le = h.1 in
-      let q : b ≡ n = omega arith in
-      (subst (λ (x : ℕ). PerformedOn disk_rules m (writing_blocks chosen words x) k) q h.0, h.3 ∙ ap (chosen_below chosen) q)
+      pub going_broken : (k' : DiskMeaning) (e : Refusal) → Refuses disk_rules k (Write b (table_block (row_units c (place_in rows) (sectors_of k)) b)) e k'
+          → HaltedOn disk_rules m (writing_blocks (is_home rows) words limit ++ Sync ∷ []) e k'
+      going_broken k' e s =
+          let stop : Refuses disk_rules k (Write b (words b)) e k' = subst (λ (ws : List ℕ). Refuses disk_rules k (Write b ws) e k') same_words s in
+          let turn : HaltedOn disk_rules k (cond (is_home rows b) (Write b (words b) ∷ []) []) e k' = subst (λ (acts : List DiskAct). HaltedOn disk_rules k acts e k') one (stopped_one stop) in
+          stopped_first (Sync ∷ []) (loop_stops (λ x. cond (is_home rows x) (Write x (words x) ∷ []) []) b limit next.most passed turn)
 
-  pub going_end : (n b count : ℕ) (k k' : DiskMeaning) → Going n b count k → n ≤ b → Performs disk_rules k Sync k'
-      → PerformedOn disk_rules m (writing_blocks chosen words n ++ Sync ∷ []) k' × (count ≡ chosen_below chosen n)
-  going_end n b count k k' h ge s = let (ran, is) = all n b count k h ge in (performed_append ran (performed_one s), is)
+    -- where no home is left, all are written
+    module _ (none : NoneHome rows from limit) where
+      all : PerformedOn disk_rules m (writing_blocks (is_home rows) words limit) k
+      all =
+          let (i, j) = skip (is_home rows) words from limit h.inside none in
+          subst (λ (acts : List DiskAct). PerformedOn disk_rules m acts k) (sym i) h.ran
 
-  pub going_cut : (n b count : ℕ) (k k' : DiskMeaning) (e : Refusal) → Going n b count k → n ≤ b → Refuses disk_rules k Sync e k'
-      → HaltedOn disk_rules m (writing_blocks chosen words n ++ Sync ∷ []) e k'
-  going_cut n b count k k' e h ge s = let (ran, is) = all n b count k h ge in stopped_second ran (stopped_one s)
+      pub going_counted : count ≡ chosen_below (is_home rows) limit
+      going_counted = let (i, j) = skip (is_home rows) words from limit h.inside none in h.counted ∙ sym j
+
+      pub going_end : (k' : DiskMeaning) → Performs disk_rules k Sync k' → PerformedOn disk_rules m (writing_blocks (is_home rows) words limit ++ Sync ∷ []) k'
+      going_end k' s = performed_append all (performed_one s)
+
+      pub going_cut : (k' : DiskMeaning) (e : Refusal) → Refuses disk_rules k Sync e k' → HaltedOn disk_rules m (writing_blocks (is_home rows) words limit ++ Sync ∷ []) e k'
+      going_cut k' e s = stopped_second all (stopped_one s)

@@ -1,30 +1,38 @@
 -- Rows that say where the records of a ring lie: the record's number and its place, the newest row first. Assumes nothing.
-use Rattle.std.specs.Prelude.{◌≡◌, ℕ, zero, suc, ◌+◌, ◌<◌, ◌≤◌, Bool, true, cond, ◌&&◌, List, [], ◌∷◌, Some, None, Option, ◌==◌, nat_eq, nat_le, nat_lt, slice_index}
+use Rattle.std.specs.Prelude.{◌≡◌, ℕ, zero, suc, ◌+◌, ◌<◌, ◌≤◌, Bool, true, false, cond, List, [], ◌∷◌, map, Some, Option, ◌==◌}
 use Rattle.std.specs.Option.{option_map, unwrap_or}
-use Rattle.device.specs.Sectors.{DiskAct, Write, any_below}
+use Rattle.std.specs.List.{find, list_any}
+use Rattle.device.specs.Sectors.{DiskAct, Write}
 use Rattle.crash.specs.Runs.{each_of}
 use Rattle.ringlaws.specs.Layout.{Contents, place_at, home_block}
-use Rattle.ringlaws.specs.Newest.{or_else}
 use Rattle.calls.specs.Table.{home_unit}
+use Rattle.checkpointing.specs.declared.rows.Row.{Row}
 
--- the place in the first of n rows that has the record's number
-unfoldable pub place_in : List ℕ → List ℕ → ℕ → ℕ → Option ℕ
-place_in numbers slots zero r = None
-place_in numbers slots (suc n) r = or_else (place_in numbers slots n r) (cond (r == slice_index numbers n) (Some (slice_index slots n)) None)
+-- the place in the first row that has the record's number
+abbrev pub place_in : List Row → ℕ → Option ℕ
+place_in rows r = option_map (λ row. row.place) (find (λ row. r == row.number) rows)
 
--- one of the first n numbers has its home in the block b
-abbrev pub home_of_one : List ℕ → ℕ → ℕ → Bool
-home_of_one numbers n b = any_below (λ i. nat_eq (home_block (slice_index numbers i)) b) n
+-- each record's place is the place of a unit of a memory of so many units
+abbrev pub LieIn : ℕ → List Row → Type 0
+LieIn units rows = (r p : ℕ) → place_in rows r ≡ Some p → p + 1 < units
 
--- b if it lies from `from` on and before the best so far, else that
-abbrev pub nearer : ℕ → ℕ → ℕ → ℕ
-nearer from best b = cond (nat_le from b && nat_lt b best) b best
+-- the blocks that are home to the rows' records, and whether the block b is one
+abbrev pub homes : List Row → List ℕ
+homes rows = map (λ row. home_block row.number) rows
 
--- r is the first block from `from` on, below the limit, that is home to one of the first n numbers; or it is the limit
-pub record Next (numbers : List ℕ) (n from limit r : ℕ) : Type 0 where
-  pub most : r ≤ limit
-  pub least : (i : ℕ) → i < n → from ≤ home_block (slice_index numbers i) → home_block (slice_index numbers i) < limit → r ≤ home_block (slice_index numbers i)
-  pub hit : r < limit → (from ≤ r) × (home_of_one numbers n r ≡ true)
+abbrev pub is_home : List Row → ℕ → Bool
+is_home rows b = list_any (λ home. home == b) (homes rows)
+
+-- no block from `from` on, below the limit, is home to a row's record
+abbrev pub NoneHome : List Row → ℕ → ℕ → Type 0
+NoneHome rows from limit = (b : ℕ) → from ≤ b → b < limit → is_home rows b ≡ false
+
+-- b is the first block from `from` on, below the limit, that is home to a row's record
+pub record Next (rows : List Row) (from limit b : ℕ) : Type 0 where
+  pub least : from ≤ b
+  pub most : b < limit
+  pub home : is_home rows b ≡ true
+  pub none : NoneHome rows from b
 
 -- a record's unit: the unit in its place, or where it has none, its home's
 abbrev pub unit_from : Contents → Option ℕ → List ℕ → List ℕ

@@ -1,9 +1,7 @@
 //! A checkpoint of both devices.
 ghost use Rattle.std.specs.Prelude.{◌≡◌, List, IfOk, MatchResult};
-ghost use Rattle.device.specs.Words.{nvm_rules, words_of};
+ghost use Rattle.device.specs.Words.{words_of};
 ghost use Rattle.device.specs.Sectors.{sectors_of};
-ghost use Rattle.crash.specs.Acts.{RanOn};
-ghost use Rattle.crash.specs.Rows.{sealing};
 ghost use Rattle.crash.specs.Pair.{both, RanPair};
 ghost use Rattle.ringlaws.specs.Layout.{tail_of};
 ghost use Rattle.ringlaws.specs.TxnInfo.{Transaction};
@@ -13,56 +11,24 @@ ghost use Rattle.checkpointing.specs.Ready.{Fit, Ready};
 use crate::blocks::write_homes;
 use crate::gather::gather;
 use crate::loads::Loads;
+pub use crate::rows::Rows;
+use acting::both::check_power;
+use acting::memory::seal;
 use device::disk::Disk;
 use device::nvm::Nvm;
 use refusal::reason::Refusal;
 use ringunits::header::{HEAD_WORD, MOST_BLOCKS};
-use ringunits::places::is_ring;
-
-/// Memory for the rows of a ring, taken once.
-#[derive(Drop)]
-pub struct Rows {
-    numbers: [u64; 255],
-    slots: [usize; 255],
-}
-
-impl Rows {
-    /// Room for the rows of any ring.
-    pub fn new() -> Rows {
-        Rows {
-            numbers: [0; 255],
-            slots: [0; 255],
-        }
-    }
-}
-
-/// Stores a word and makes it last.
-fn seal<N: Nvm>(nvm: &mut N, word: usize, value: u64) -> Result<(), Refusal>
-    ensures { RanOn nvm_rules (N.meaning nvm.old) (sealing word value) result (N.meaning nvm.new) }
-{
-    nvm.store(word, value)?;
-    nvm.flush(word / 8)?;
-    nvm.fence()
-}
+use ringunits::places::Ring;
 
 /// Refuses devices without power or too small, and a head or tail that is no place.
-fn check_fit<N: Nvm, D: Disk>(
-    nvm: &N,
-    disk: &D,
-    places: usize,
-    blocks: usize,
-    head: usize,
-    tail: usize,
-) -> Result<(), Refusal>
-    ensures { MatchResult result (λ _. Fit places blocks (N.Nvm.meaning nvm.now) (D.Disk.meaning disk.now) head tail) (λ _. Fit places blocks (N.Nvm.meaning nvm.now) (D.Disk.meaning disk.now) head tail → ⊥) }
+fn check_fit<N: Nvm, D: Disk>(nvm: &N, disk: &D, ring: Ring, blocks: usize) -> Result<(), Refusal>
+    ensures { MatchResult result (λ _. Fit ring.places blocks (N.Nvm.meaning nvm.now) (D.Disk.meaning disk.now) ring.head ring.tail) (λ _. Fit ring.places blocks (N.Nvm.meaning nvm.now) (D.Disk.meaning disk.now) ring.head ring.tail → ⊥) }
 {
-    if nvm.is_dark() || disk.is_dark() {
-        return Err(Refusal::Dark);
-    }
-    if !is_ring(places, head, tail) || blocks > MOST_BLOCKS {
+    check_power(nvm, disk)?;
+    if !ring.is_valid() || blocks > MOST_BLOCKS {
         return Err(Refusal::Beyond);
     }
-    if nvm.units() <= places || disk.blocks() < blocks {
+    if nvm.units() <= ring.places || disk.blocks() < blocks {
         return Err(Refusal::Beyond);
     }
     Ok(())
@@ -73,40 +39,21 @@ fn check_fit<N: Nvm, D: Disk>(
 pub fn checkpoint_devices<N: Nvm, D: Disk>(
     nvm: &mut N,
     disk: &mut D,
-    places: usize,
+    ring: Ring,
     blocks: usize,
-    head: usize,
-    tail: usize,
     rows: &mut Rows,
     buf: &mut [u64; 512],
 ) -> Result<usize, Refusal>
-    ensures ran { (ts : List Transaction) → Ready places blocks (N.Nvm.meaning nvm.old) (D.Disk.meaning disk.old) head tail ts → tail_of (words_of (N.Nvm.meaning nvm.old)) ≡ tail → RanPair (both (N.Nvm.meaning nvm.old) (D.Disk.meaning disk.old)) (checkpoint_acts blocks (words_of (N.Nvm.meaning nvm.old)) ts (sectors_of (D.Disk.meaning disk.old))) result (both (N.Nvm.meaning nvm.new) (D.Disk.meaning disk.new)) }
-    ensures counted { (ts : List Transaction) → Ready places blocks (N.Nvm.meaning nvm.old) (D.Disk.meaning disk.old) head tail ts → IfOk result (λ k. k ≡ named_blocks blocks ts) }
+    ensures ran { (ts : List Transaction) → Ready ring.places blocks (N.Nvm.meaning nvm.old) (D.Disk.meaning disk.old) ring.head ring.tail ts → tail_of (words_of (N.Nvm.meaning nvm.old)) ≡ ring.tail → RanPair (both (N.Nvm.meaning nvm.old) (D.Disk.meaning disk.old)) (checkpoint_acts blocks (words_of (N.Nvm.meaning nvm.old)) ts (sectors_of (D.Disk.meaning disk.old))) result (both (N.Nvm.meaning nvm.new) (D.Disk.meaning disk.new)) }
+    ensures counted { (ts : List Transaction) → Ready ring.places blocks (N.Nvm.meaning nvm.old) (D.Disk.meaning disk.old) ring.head ring.tail ts → IfOk result (λ k. k ≡ named_blocks blocks ts) }
 {
-    check_fit(nvm, disk, places, blocks, head, tail)?;
+    check_fit(nvm, disk, ring, blocks)?;
     let source = Loads(nvm);
-    let count = gather(
-        &source,
-        places,
-        blocks,
-        head,
-        tail,
-        &mut rows.numbers,
-        &mut rows.slots,
-    )?;
-    if count == 0 {
+    gather(&source, ring, blocks, rows)?;
+    if rows.is_empty() {
         return Ok(0);
     }
-    let written = write_homes(
-        nvm,
-        disk,
-        places,
-        blocks,
-        &rows.numbers,
-        &rows.slots,
-        count,
-        buf,
-    )?;
-    seal(nvm, HEAD_WORD, tail as u64)?;
+    let written = write_homes(nvm, disk, rows, blocks, buf)?;
+    seal(nvm, HEAD_WORD, ring.tail as u64)?;
     Ok(written)
 }

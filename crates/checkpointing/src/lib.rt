@@ -6,5 +6,5 @@ pub mod devices;
 mod gather;
 mod lay;
 pub mod loads;
-mod next;
 pub mod read;
+mod rows;

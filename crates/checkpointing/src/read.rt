@@ -13,7 +13,7 @@ use device::nvm::Nvm;
 use refusal::reason::Refusal;
 use ring::find::find;
 use ring::unit::load_unit;
-use ringunits::places::home_of;
+use ringunits::places::{Ring, home_of};
 
 /// The 32 words of a unit of a block.
 fn unit_of(block: &[u64; 512], unit: usize) -> [u64; 32]
@@ -21,9 +21,7 @@ fn unit_of(block: &[u64; 512], unit: usize) -> [u64; 32]
     ensures { result ≡ unit_at (contents_of block.now) unit }
 {
     let mut words = [0; 32];
-    for i in 0..32 {
-        words[i] = block[32 * unit + i];
-    }
+    words.copy_from_slice(&block[32 * unit..32 * unit + 32]);
     words
 }
 
@@ -31,16 +29,14 @@ fn unit_of(block: &[u64; 512], unit: usize) -> [u64; 32]
 pub fn read_unit<N: Nvm, D: Disk>(
     nvm: &N,
     disk: &D,
-    places: usize,
-    head: usize,
-    tail: usize,
+    ring: Ring,
     record_number: usize,
     buf: &mut [u64; 512],
 ) -> Result<[u64; 32], Refusal>
-    ensures { (B : ℕ) (ts : List Transaction) → Ready places B (N.Nvm.meaning nvm.now) (D.Disk.meaning disk.now) head tail ts → home_block record_number < B → result ≡ Ok (table ts (sectors_of (D.Disk.meaning disk.now)) record_number) }
+    ensures { (B : ℕ) (ts : List Transaction) → Ready ring.places B (N.Nvm.meaning nvm.now) (D.Disk.meaning disk.now) ring.head ring.tail ts → home_block record_number < B → result ≡ Ok (table ts (sectors_of (D.Disk.meaning disk.now)) record_number) }
 {
     let source = Loads(nvm);
-    if let Some(place) = find(&source, places, head, tail, record_number as u64)? {
+    if let Some(place) = find(&source, ring, record_number as u64)? {
         return load_unit(&source, place + 1);
     }
     let home = home_of(record_number);

@@ -6,7 +6,7 @@ ghost use Rattle.calls.specs.Steps.{Step};
 ghost use Rattle.order.specs.Order.{kind_of};
 ghost use Rattle.calling.specs.Seen.{seen, blocks_answer, if_done};
 
-use acting::both::settle_both;
+use acting::both::{check_power, settle_both};
 use calling::contents::check_contents;
 use calling::sizes::fit_sizes;
 use checkpointing::devices::{Rows, checkpoint_devices};
@@ -25,24 +25,13 @@ pub fn mount_call<K: RecordKind, N: Nvm, D: Disk>(
 ) -> Result<usize, Refusal>
     ensures { (list : Transaction) → Step (kind_of K.RecordKind.unit K.RecordKind.reads) (seen (N.Nvm.meaning nvm.old) (D.Disk.meaning disk.old) Unmounted list) Mount (blocks_answer result) (seen (N.Nvm.meaning nvm.new) (D.Disk.meaning disk.new) (if_done result Idle Unmounted) list) }
 {
-    if nvm.is_dark() || disk.is_dark() {
-        return Err(Refusal::Dark);
-    }
+    check_power(nvm, disk)?;
     let units = nvm.units();
     let blocks = disk.blocks();
     if !fit_sizes(units, blocks) {
         return Err(Refusal::BadSize);
     }
     settle_both(nvm, disk)?;
-    let ends = check_contents(nvm, units - 1, blocks)?;
-    checkpoint_devices(
-        nvm,
-        disk,
-        ends.places,
-        blocks,
-        ends.head,
-        ends.tail,
-        rows,
-        buf,
-    )
+    let ring = check_contents(nvm, units - 1, blocks)?;
+    checkpoint_devices(nvm, disk, ring, blocks, rows, buf)
 }

@@ -1,9 +1,9 @@
 -- Where a record's setting stands, and what setting it does there. Assumes nothing.
-use Rattle.std.proofs.Common.{◌≡◌, ℕ, zero, suc, ◌*◌, ◌/◌, ◌<◌, ◌≤◌, Bool, true, false, cond, ◌||◌, eqb, ltb, List, [], ◌∷◌, ◌++◌, length, get_or, set, Some, None, Option, sym, refl, ap, ◌∙◌, subst, inl, inr, arith}
+use Rattle.std.proofs.Common.{◌≡◌, ℕ, suc, ◌+◌, ◌*◌, ◌/◌, ◌<◌, ◌≤◌, Bool, true, false, cond, ◌||◌, eqb, ltb, List, [], ◌∷◌, ◌++◌, length, set, Some, None, Option, Bor, sym, refl, ap, ◌∙◌, subst, inl, inr, arith}
 use Rattle.std.specs.Option.{option_map}
+use Rattle.std.specs.List.{find, position_from}
 use Rattle.std.proofs.lemmas.Bool.Decides.{nat_tests}
-use Rattle.std.proofs.lemmas.List.{get_or-map, length-map}
-use Rattle.std.proofs.lemmas.Bool.{cond-true, cond-false, cases_Bool, or_parts, eq-eqb}
+use Rattle.std.proofs.lemmas.Bool.{cond-true, cond-false, cases_Bool, or_parts}
 use Rattle.refusal.specs.declared.reason.Refusal.TheVariants.{TooManyRecords, NoSuchRecord}
 use Rattle.ringlaws.specs.declared.setting.Setting.{Setting}
 use Rattle.ringlaws.specs.Layout.{records_of}
@@ -12,26 +12,51 @@ use Rattle.ringlaws.specs.Newest.{index_of, setting_of}
 use Rattle.calls.specs.Plans.{put, may_put, set_refusal}
 use Rattle.order.proofs.Settings.{put_again, put_new, distinct_snoc}
 
--- a number that none of the first i has, and that the next has, stands there
-pub first_here : (r : ℕ) (ns : List ℕ) (i : ℕ) → ((k : ℕ) → k < i → r ≡ get_or ns k 0 → ⊥) → i < length ns → r ≡ get_or ns i 0 → Some i ≡ index_of r ns
-unfolding index_of
-first_here r [] i none lt e = absurd (omega arith)
-first_here r (n ∷ ns) zero none lt e = sym (cond-true (eqb r n) (Some 0) (option_map suc (index_of r ns)) (eq-eqb r n e))
-first_here r (n ∷ ns) (suc i) none lt e =
-    let differ : r ≡ n → ⊥ = none 0 (omega arith) in
-    let other : eqb r n ≡ false = grind (arith, nat_tests) in
-    ap (option_map suc) (first_here r ns i (λ k h. none (suc k) (omega arith)) (omega arith) e)
-    ∙ sym (cond-false (eqb r n) (Some 0) (option_map suc (index_of r ns)) other)
+turned : (a b : ℕ) → eqb a b ≡ eqb b a
+turned a b = grind (arith, nat_tests)
 
--- a number that none has stands nowhere
-pub nowhere : (r : ℕ) (ns : List ℕ) → ((k : ℕ) → k < length ns → r ≡ get_or ns k 0 → ⊥) → None ≡ index_of r ns
+-- the first setting of the record r, counted from i on
+position_is : (r : ℕ) (t : Transaction) (i : ℕ) → position_from (λ (s : Setting). eqb s.number r) i t ≡ option_map (λ k. i + k) (index_of r (numbers_of t))
 unfolding index_of
-nowhere r [] none = refl
-nowhere r (n ∷ ns) none =
-    let differ : r ≡ n → ⊥ = none 0 (omega arith) in
-    let other : eqb r n ≡ false = grind (arith, nat_tests) in
-    ap (option_map suc) (nowhere r ns (λ k h. none (suc k) (omega arith)))
-    ∙ sym (cond-false (eqb r n) (Some 0) (option_map suc (index_of r ns)) other)
+position_is r [] i = refl
+position_is r (s ∷ t) i =
+    ap (λ b. cond b (Some i) (position_from (λ (x : Setting). eqb x.number r) (i + 1) t)) (turned s.number r)
+    ∙ ap (cond (eqb r s.number) (Some i)) (position_is r t (i + 1))
+    ∙ by_test (eqb r s.number) (index_of r (numbers_of t))
+  where
+    by_test : (b : Bool) (o : Option ℕ) → cond b (Some i) (option_map (λ k. (i + 1) + k) o) ≡ option_map (λ k. i + k) (cond b (Some 0) (option_map suc o))
+    by_test true o = let e : i ≡ i + 0 = omega arith in ap Some e
+    by_test false None = refl
+    by_test false (Some k) = let e : (i + 1) + k ≡ i + suc k = omega arith in ap Some e
+
+first_position : (r : ℕ) (t : Transaction) → position_from (λ (s : Setting). eqb s.number r) 0 t ≡ index_of r (numbers_of t)
+first_position r t = position_is r t 0 ∙ same (index_of r (numbers_of t))
+  where
+    same : (o : Option ℕ) → option_map (λ k. 0 + k) o ≡ o
+    same None = refl
+    same (Some k) = let e : 0 + k ≡ k = omega arith in ap Some e
+
+-- the unit of the first setting of the record r
+abbrev pub setting_in : ℕ → Transaction → Option (List ℕ)
+setting_in r t = option_map (λ s. s.unit) (find (λ s. eqb s.number r) t)
+
+pub first_unit : (r : ℕ) (t : Transaction) → setting_in r t ≡ setting_of t r
+unfolding setting_of
+first_unit r [] = refl
+first_unit r (s ∷ t) =
+    ap (λ b. option_map (λ (x : Setting). x.unit) (cond b (Some s) (find (λ (x : Setting). eqb x.number r) t))) (turned s.number r)
+    ∙ by_test (eqb r s.number)
+    ∙ ap (cond (eqb r s.number) (Some s.unit)) (first_unit r t)
+  where
+    by_test : (b : Bool) → option_map (λ (x : Setting). x.unit) (cond b (Some s) (find (λ (x : Setting). eqb x.number r) t)) ≡ cond b (Some s.unit) (setting_in r t)
+    by_test true = refl
+    by_test false = refl
+
+-- what a search that finds the first setting of the record answers
+pub unit_found : (r : ℕ) (t : Transaction) (o p : Option (Bor Setting)) → option_map (λ (s : Bor Setting). s.now) o ≡ find (λ (s : Setting). eqb s.number r) t → o ≡ p
+    → option_map (λ (s : Bor Setting). s.now.unit) p ≡ setting_of t r
+unit_found r t o None e is = ap (λ x. option_map (λ (s : Setting). s.unit) (option_map (λ (s : Bor Setting). s.now) x)) (sym is) ∙ ap (option_map (λ (s : Setting). s.unit)) e ∙ first_unit r t
+unit_found r t o (Some s) e is = ap (λ x. option_map (λ (s : Setting). s.unit) (option_map (λ (s : Bor Setting). s.now) x)) (sym is) ∙ ap (option_map (λ (s : Setting). s.unit)) e ∙ first_unit r t
 
 -- record r is the i-th that is set, and no earlier one
 pub data Stands (r : ℕ) : Transaction → ℕ → Type 0 where
@@ -76,11 +101,6 @@ module _ {r : ℕ} where
   put_there (here {s} {t} e) u = cond-true (eqb r s.number) (setting r u ∷ t) (s ∷ put t r u) e
   put_there (there {s} {t} e w) u = cond-false (eqb r s.number) (setting r u ∷ t) (s ∷ put t r u) e ∙ ap (λ x. s ∷ x) (put_there w u)
 
-  pub set_there : {t : Transaction} {i : ℕ} → Stands r t i → (d : Setting) → setting_of t r ≡ Some (get_or t i d).unit
-  unfolding setting_of
-  set_there (here {s} {t} e) d = cond-true (eqb r s.number) (Some s.unit) (setting_of t r) e
-  set_there (there {s} {t} e w) d = cond-false (eqb r s.number) (Some s.unit) (setting_of t r) e ∙ set_there w d
-
 -- a record that stands nowhere is not set
 pub unlisted : (r : ℕ) (t : Transaction) → index_of r (numbers_of t) ≡ None → member r (numbers_of t) ≡ false
 unfolding index_of member
@@ -99,13 +119,6 @@ put_last r (s ∷ t) u h =
     let p = or_parts (eqb r s.number) (member r (numbers_of t)) h in
     cond-false (eqb r s.number) (setting r u ∷ t) (s ∷ put t r u) p.0 ∙ ap (λ x. s ∷ x) (put_last r t u p.1)
 
-pub unset : (r : ℕ) (t : Transaction) → member r (numbers_of t) ≡ false → setting_of t r ≡ None
-unfolding setting_of member
-unset r [] h = refl
-unset r (s ∷ t) h =
-    let p = or_parts (eqb r s.number) (member r (numbers_of t)) h in
-    cond-false (eqb r s.number) (Some s.unit) (setting_of t r) p.0 ∙ unset r t p.1
-
 -- numbers that are apart stay so
 pub put_apart : (r : ℕ) (t : Transaction) (u : List ℕ) → distinct (numbers_of t) ≡ true → distinct (numbers_of (put t r u)) ≡ true
 put_apart r t u h =
@@ -113,14 +126,6 @@ put_apart r t u h =
       | inl old ↦ ap distinct (put_again t r u old) ∙ h
       | inr new ↦ ap distinct (put_new t r u new) ∙ distinct_snoc (numbers_of t) r h new
     ]
-
--- there are as many numbers as settings
-pub as_long : (t : Transaction) → length (numbers_of t) ≡ length t
-as_long t = length-map t (λ (s : Setting). s.number)
-
--- the number of the i-th setting
-pub number_at : (t : Transaction) (i : ℕ) (d : Setting) → i < length t → get_or (numbers_of t) i 0 ≡ (get_or t i d).number
-number_at t i d h = get_or-map (λ s. s.number) t i d 0 h
 
 -- what is refused of a record, by the block of its home and by where it stands
 module _ (B r : ℕ) (t : Transaction) (inside : r / 16 < B) where
@@ -143,8 +148,8 @@ module _ (B r : ℕ) (t : Transaction) (inside : r / 16 < B) where
       cond-true (ltb r (records_of B)) (cond (may_put t r) None (Some TooManyRecords)) (Some NoSuchRecord) below ∙ cond-false (may_put t r) None (Some TooManyRecords) none
 
 -- what the search found in a slice that is the settings
-pub found : (r i : ℕ) (xs t : Transaction) → xs ≡ t → Some i ≡ index_of r (numbers_of xs) → Stands r t i
-found r i xs t same e = stands r t i (ap (λ ys. index_of r (numbers_of ys)) (sym same) ∙ sym e)
+pub found : (r i : ℕ) (xs t : Transaction) → xs ≡ t → Some i ≡ position_from (λ (s : Setting). eqb s.number r) 0 xs → Stands r t i
+found r i xs t same e = stands r t i (sym (e ∙ first_position r xs ∙ ap (λ ys. index_of r (numbers_of ys)) same))
 
-pub missed : (r : ℕ) (xs t : Transaction) → xs ≡ t → None ≡ index_of r (numbers_of xs) → member r (numbers_of t) ≡ false
-missed r xs t same e = unlisted r t (ap (λ ys. index_of r (numbers_of ys)) (sym same) ∙ sym e)
+pub missed : (r : ℕ) (xs t : Transaction) → xs ≡ t → None ≡ position_from (λ (s : Setting). eqb s.number r) 0 xs → member r (numbers_of t) ≡ false
+missed r xs t same e = unlisted r t (sym (e ∙ first_position r xs ∙ ap (λ ys. index_of r (numbers_of ys)) same))

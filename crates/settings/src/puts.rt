@@ -1,8 +1,8 @@
 //! What is done with the settings.
-ghost use Rattle.std.specs.Prelude.{◌≡◌, [], length, MatchResult};
+ghost use Rattle.std.specs.Prelude.{◌≡◌, ◌==◌, [], length, MatchResult};
+ghost use Rattle.std.specs.List.{position_from};
 ghost use Rattle.refusal.specs.declared.reason.Refusal.TheVariants.{NoMemory};
-ghost use Rattle.ringlaws.specs.TxnInfo.{numbers_of};
-ghost use Rattle.ringlaws.specs.Newest.{index_of, setting_of};
+ghost use Rattle.ringlaws.specs.Newest.{setting_of};
 ghost use Rattle.settings.specs.Puts.{list_of, Puts};
 
 use crate::kept::Settings;
@@ -12,14 +12,9 @@ use std::alloc::Global;
 
 /// Where the setting of a record stands.
 fn position(settings: &[Setting], number: u64) -> Option<usize>
-    ensures { result ≡ index_of number (numbers_of settings.now) }
+    ensures { result ≡ position_from (λ setting. setting.number == number) 0 settings.now }
 {
-    for i in 0..settings.len() {
-        if settings[i].number == number {
-            return Some(i);
-        }
-    }
-    None
+    settings.iter().position(|setting| setting.number == number)
 }
 
 impl Settings {
@@ -30,9 +25,7 @@ impl Settings {
     pub fn new(heap: Global) -> Result<Settings, Refusal>
         ensures { MatchResult result (λ s. list_of s ≡ []) (λ e. e ≡ NoMemory) }
     {
-        let Ok(list) = Vec::with_capacity(heap, Settings::MOST) else {
-            return Err(Refusal::NoMemory);
-        };
+        let list = Vec::with_capacity(heap, Settings::MOST).map_err(|_| Refusal::NoMemory)?;
         Ok(Settings { list })
     }
 
@@ -54,10 +47,8 @@ impl Settings {
     pub fn unit_of(&self, number: u64) -> Option<[u64; 32]>
         ensures { result ≡ setting_of (list_of self.now) number }
     {
-        match position(self.list.as_slice(), number) {
-            Some(i) => Some(self.list[i].unit),
-            None => None,
-        }
+        let setting = self.list.iter().find(|setting| setting.number == number)?;
+        Some(setting.unit)
     }
 
     /// Sets a record of a disk of so many blocks. A record that is set already keeps its position and takes the new unit.

@@ -1,7 +1,9 @@
+use Rattle.std.proofs.Common.{◌≡◌, ℕ, ◌+◌}
 use Rattle.device.specs.Words.{nvm_rules}
 use Rattle.crash.specs.Acts.{PerformedOn}
 use Rattle.crash.specs.Rows.{flushing}
 use Rattle.acting.proofs.memory.flush_lines.Given as goal
 
-abbrev pub invariant-loop-i : goal.invariant-loop-i
-invariant-loop-i g l = let m = g.N.Nvm.meaning in PerformedOn nvm_rules (m l.initial.nvm) (flushing l.first l.i) (m l.nvm)
+abbrev pub invariant-loop-line : goal.invariant-loop-line
+invariant-loop-line g l =
+    let m = g.N.Nvm.meaning in (i : ℕ) × (l.line ≡ l.first + i) × PerformedOn nvm_rules (m l.initial.nvm) (flushing l.first i) (m l.nvm)

@@ -1,4 +1,3 @@
-use Rattle.std.proofs.Common.{sym, ◌∙◌}
 use Rattle.calls.specs.declared.state.State.TheVariants.{Idle}
 use Rattle.order.specs.Order.{kind_of}
 use Rattle.calling.proofs.Mounted.{ended, count, checkpoint_stepped, close_stepped, idle_mounted}
@@ -11,9 +10,9 @@ returns g c =
     let n = g.N.Nvm.meaning c.checkpoint_devices.new.nvm in
     let d = g.D.Disk.meaning c.checkpoint_devices.new.disk in
     let kind = kind_of g.K.RecordKind.unit g.K.RecordKind.reads in
-    let lit = sym c.is_dark.ensures ∙ c.if-is_dark.false in
-    let also = sym c.is_dark-else-is_dark.ensures ∙ c.if-is_dark-2.false in
-    let at = c.in_ok-ends.ensures in
+    let lit = c.in_ok-check_power.ensures.0 in
+    let also = c.in_ok-check_power.ensures.1 in
+    let at = c.in_ok-ring.ensures in
     let r = c.checkpoint_devices.result in
     record {
       checkpoint = λ state list mounted order.

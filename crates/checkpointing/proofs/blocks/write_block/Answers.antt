@@ -1,4 +1,4 @@
-use Rattle.std.proofs.Common.{ℕ, ◌+◌, List, subst}
+use Rattle.std.proofs.Common.{ℕ, List, subst, arith}
 use Rattle.device.specs.Devices.{Acted}
 use Rattle.device.specs.Words.{words_of}
 use Rattle.device.specs.Sectors.{Write, disk_rules, sectors_of}
@@ -9,19 +9,17 @@ use Rattle.checkpointing.proofs.blocks.write_block.Goals as goal
 
 pub returns-in_err-read : goal.returns-in_err-read
 returns-in_err-read g c =
-    absurd (read_open (g.D.Disk.meaning c.args.disk.now) c.args.block c.in_err-read.field-0.0 c.requires.lit.1 c.requires.inside.1 c.in_err-read.ensures.0)
-
-pub lay_block-requires : goal.lay_block-requires
-lay_block-requires g c = (c.requires.few.0, (c.requires.few.1.0, (c.requires.few.1.1, c.requires.within)))
+    absurd (read_open (g.D.Disk.meaning c.args.disk.now) c.args.block c.in_err-read.field-0.0 c.requires.lit.1 c.requires.inside.0 c.in_err-read.ensures.0)
 
 pub returns-in_err-lay_block : goal.returns-in_err-lay_block
 returns-in_err-lay_block g c =
-    absurd (loads_within (g.N.Nvm.meaning c.args.nvm.now) (c.args.places + 1) c.in_err-lay_block.field-0.0 c.requires.lit.0 c.requires.inside.0 c.in_err-lay_block.ensures)
+    let n = g.N.Nvm.meaning c.args.nvm.now in
+    absurd (loads_within n n.size c.in_err-lay_block.field-0.0 c.requires.lit.0 (omega arith) (c.in_err-lay_block.ensures n.size c.requires.within))
 
 pub returns : goal.returns
 returns g c =
     let n = g.N.Nvm.meaning c.args.nvm.now in
     let m = g.D.Disk.meaning c.args.disk.now in
-    let e = block_made (words_of n) (place_in c.args.numbers.now c.args.slots.now c.args.count) (sectors_of m) c.args.block c.read.new.buf c.lay_block.new.buf
+    let e = block_made (words_of n) (place_in c.args.rows.now) (sectors_of m) c.args.block c.read.new.buf c.lay_block.new.buf
     c.in_ok-read.ensures.1 c.lay_block.array_long (c.in_ok-lay_block.ensures (words_of n) (loads_agree n)) in
     subst (λ (ws : List ℕ). Acted disk_rules m (Write c.args.block ws) c.write.result (g.D.Disk.meaning c.write.new.self)) e c.write.ensures

@@ -1,76 +1,34 @@
-use Rattle.std.proofs.Common.{◌<◌, ◌∙◌, arith}
-use Rattle.device.specs.Words.{words_of}
-use Rattle.crash.specs.Pair.{PairPerforms, PairRefuses}
-use Rattle.crash.proofs.Runs.{ran_broken}
-use Rattle.ringunits.proofs.Rings.{ring}
-use Rattle.checkpointing.proofs.Loading.{loads_agree}
-use Rattle.checkpointing.proofs.Ending.{no_count, gather_open, rows_below, count_is, nothing_ran, nothing_counted, homes_broken, head_broken, finished}
+use Rattle.std.proofs.Common.{ℕ, Ok, Result, refl, ◌∙◌}
+use Rattle.refusal.specs.declared.reason.Refusal.{Refusal}
+use Rattle.acting.proofs.Running.{broken, pair_broken}
+use Rattle.checkpointing.proofs.Ending.{gather_open, rows_lie, count_is, not_so, nothing_ran, nothing_counted, homes_broken, head_ran}
 use Rattle.checkpointing.proofs.devices.checkpoint_devices.Goals as goal
 
-pub gather-requires : goal.gather-requires
-gather-requires g c = c.in_ok-check_fit.ensures.ring
+pub returns-in_err-gather-clause-ran : goal.returns-in_err-gather-clause-ran
+returns-in_err-gather-clause-ran g c ts ready at = absurd (gather_open ready c.in_err-gather.ensures)
 
-pub write_homes-requires : goal.write_homes-requires
-write_homes-requires g c =
-    let fit = c.in_ok-check_fit.ensures in
-    let most = (ring c.args.places c.args.head c.args.tail fit.ring).most in
-    let some = c.in_ok-count.ensures.0 in
-    record {
-      lit = (fit.nvm_lit, fit.disk_lit);
-      inside = (fit.units, fit.blocks);
-      few = (omega (arith, some), (most, fit.few));
-      within = rows_below c.args.places c.args.blocks c.args.head c.args.tail (g.N.Nvm.meaning c.args.nvm.now) (g.D.Disk.meaning c.args.disk.now) c.gather.new.numbers c.gather.new.slots c.in_ok-count.count
-          (c.in_ok-count.ensures.1 (words_of (g.N.Nvm.meaning c.args.nvm.now)) (loads_agree (g.N.Nvm.meaning c.args.nvm.now))) fit;
-    }
+pub returns-then-is_empty-clause-ran : goal.returns-then-is_empty-clause-ran
+returns-then-is_empty-clause-ran g c ts ready at = nothing_ran c.gather.new.rows c.in_ok-gather.ensures ready (c.if-is_empty.ensures.0 refl)
 
-pub returns-in_err-check_fit : goal.returns-in_err-check_fit
-returns-in_err-check_fit g c = record {
-  ran = λ ts ready at. absurd (c.in_err-check_fit.ensures ready.fit);
-  counted = λ ts ready. absurd (c.in_err-check_fit.ensures ready.fit);
-}
+pub returns-then-is_empty-clause-counted : goal.returns-then-is_empty-clause-counted
+returns-then-is_empty-clause-counted g c ts ready = nothing_counted c.gather.new.rows c.in_ok-gather.ensures ready (c.if-is_empty.ensures.0 refl)
 
-pub returns-in_err-count : goal.returns-in_err-count
-returns-in_err-count g c = record {
-  ran = λ ts ready at. absurd (gather_open c.args.places c.args.blocks c.args.head c.args.tail (g.N.Nvm.meaning c.args.nvm.now) (g.D.Disk.meaning c.args.disk.now) ts ready c.in_err-count.field-0.0 c.in_err-count.ensures);
-  counted = λ ts ready. absurd (gather_open c.args.places c.args.blocks c.args.head c.args.tail (g.N.Nvm.meaning c.args.nvm.now) (g.D.Disk.meaning c.args.disk.now) ts ready c.in_err-count.field-0.0 c.in_err-count.ensures);
-}
+pub write_homes-requires-clause-within : goal.write_homes-requires-clause-within
+write_homes-requires-clause-within g c = rows_lie c.gather.new.rows c.in_ok-gather.ensures c.in_ok-check_fit.ensures
 
-pub returns-then-count-eq0 : goal.returns-then-count-eq0
-returns-then-count-eq0 g c = record {
-  ran = λ ts ready at. nothing_ran c.args.places c.args.blocks c.args.head c.args.tail (g.N.Nvm.meaning c.args.nvm.now) (g.D.Disk.meaning c.args.disk.now) c.gather.new.numbers c.gather.new.slots c.in_ok-count.count
-      (c.in_ok-count.ensures.1 (words_of (g.N.Nvm.meaning c.args.nvm.now)) (loads_agree (g.N.Nvm.meaning c.args.nvm.now))) ts ready c.if-count-eq0.true;
-  counted = λ ts ready. nothing_counted c.args.places c.args.blocks c.args.head c.args.tail (g.N.Nvm.meaning c.args.nvm.now) (g.D.Disk.meaning c.args.disk.now) c.gather.new.numbers c.gather.new.slots c.in_ok-count.count
-      (c.in_ok-count.ensures.1 (words_of (g.N.Nvm.meaning c.args.nvm.now)) (loads_agree (g.N.Nvm.meaning c.args.nvm.now))) ts ready c.if-count-eq0.true;
-}
+pub returns-in_err-written-clause-ran : goal.returns-in_err-written-clause-ran
+returns-in_err-written-clause-ran g c ts ready at =
+    pair_broken _ c.from_residual-in_err-written.ensures.1 (homes_broken c.gather.new.rows c.in_ok-gather.ensures ready (not_so c.if-is_empty.ensures.1) at c.in_err-written.ensures.ran)
 
-pub returns-in_err-written : goal.returns-in_err-written
-returns-in_err-written g c = record {
-  ran = λ ts ready at.
-      let some : 0 < c.in_ok-count.count = let ne = c.if-count-eq0.false in omega arith in
-      ran_broken PairPerforms PairRefuses c.in_err-written.field-0.0 c.from_residual-in_err-written.result c.from_residual-in_err-written.ensures.1
-      (homes_broken c.args.places c.args.blocks c.args.head c.args.tail (g.N.Nvm.meaning c.args.nvm.now) (g.D.Disk.meaning c.args.disk.now) c.gather.new.numbers c.gather.new.slots c.in_ok-count.count
-      (c.in_ok-count.ensures.1 (words_of (g.N.Nvm.meaning c.args.nvm.now)) (loads_agree (g.N.Nvm.meaning c.args.nvm.now))) ts ready some at c.in_err-written.field-0.0 (g.D.Disk.meaning c.write_homes.new.disk) c.in_err-written.ensures.ran);
-  counted = λ ts ready. no_count c.in_err-written.field-0.0 c.from_residual-in_err-written.result _ c.from_residual-in_err-written.ensures.1;
-}
+pub returns-in_err-seal-clause-ran : goal.returns-in_err-seal-clause-ran
+returns-in_err-seal-clause-ran g c ts ready at =
+    let r = c.from_residual-in_err-seal.result in
+    head_ran c.gather.new.rows c.in_ok-gather.ensures ready (not_so c.if-is_empty.ensures.1) at (g.N.Nvm.meaning c.seal.new.nvm) r c.in_ok-written.ensures.ran (broken r c.from_residual-in_err-seal.ensures.1 c.in_err-seal.ensures)
 
-pub returns-in_err-seal : goal.returns-in_err-seal
-returns-in_err-seal g c = record {
-  ran = λ ts ready at.
-      let some : 0 < c.in_ok-count.count = let ne = c.if-count-eq0.false in omega arith in
-      ran_broken PairPerforms PairRefuses c.in_err-seal.field-0.0 c.from_residual-in_err-seal.result c.from_residual-in_err-seal.ensures.1
-      (head_broken c.args.places c.args.blocks c.args.head c.args.tail (g.N.Nvm.meaning c.args.nvm.now) (g.D.Disk.meaning c.args.disk.now) c.gather.new.numbers c.gather.new.slots c.in_ok-count.count
-      (c.in_ok-count.ensures.1 (words_of (g.N.Nvm.meaning c.args.nvm.now)) (loads_agree (g.N.Nvm.meaning c.args.nvm.now))) ts ready some at c.in_err-seal.field-0.0 (g.D.Disk.meaning c.write_homes.new.disk) (g.N.Nvm.meaning c.seal.new.nvm)
-      c.in_ok-written.ensures.ran c.in_err-seal.ensures);
-  counted = λ ts ready. no_count c.in_err-seal.field-0.0 c.from_residual-in_err-seal.result _ c.from_residual-in_err-seal.ensures.1;
-}
+pub returns-clause-ran : goal.returns-clause-ran
+returns-clause-ran g c ts ready at =
+    let whole : Result ℕ Refusal = Ok c.in_ok-written.written in
+    head_ran c.gather.new.rows c.in_ok-gather.ensures ready (not_so c.if-is_empty.ensures.1) at (g.N.Nvm.meaning c.seal.new.nvm) whole c.in_ok-written.ensures.ran c.in_ok-seal.ensures
 
-pub returns : goal.returns
-returns g c = record {
-  ran = λ ts ready at.
-      let some : 0 < c.in_ok-count.count = let ne = c.if-count-eq0.false in omega arith in
-      finished c.args.places c.args.blocks c.args.head c.args.tail (g.N.Nvm.meaning c.args.nvm.now) (g.D.Disk.meaning c.args.disk.now) c.gather.new.numbers c.gather.new.slots c.in_ok-count.count
-      (c.in_ok-count.ensures.1 (words_of (g.N.Nvm.meaning c.args.nvm.now)) (loads_agree (g.N.Nvm.meaning c.args.nvm.now))) ts ready some at (g.D.Disk.meaning c.write_homes.new.disk) (g.N.Nvm.meaning c.seal.new.nvm)
-      c.in_ok-written.ensures.ran c.in_ok-seal.ensures;
-  counted = λ ts ready. c.in_ok-written.ensures.counted ∙ count_is c.args.places c.args.blocks c.args.head c.args.tail (g.N.Nvm.meaning c.args.nvm.now) (g.D.Disk.meaning c.args.disk.now) c.gather.new.numbers c.gather.new.slots c.in_ok-count.count
-      (c.in_ok-count.ensures.1 (words_of (g.N.Nvm.meaning c.args.nvm.now)) (loads_agree (g.N.Nvm.meaning c.args.nvm.now))) ts ready;
-}
+pub returns-clause-counted : goal.returns-clause-counted
+returns-clause-counted g c ts ready = c.in_ok-written.ensures.counted ∙ count_is c.gather.new.rows c.in_ok-gather.ensures ready

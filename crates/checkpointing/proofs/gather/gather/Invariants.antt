@@ -1,15 +1,15 @@
-use Rattle.std.proofs.Common.{◌+◌, ◌<◌}
-use Rattle.ring.proofs.Walking.{Came}
+use Rattle.std.proofs.Common.{◌≡◌, ◌+◌, ◌<◌, length}
 use Rattle.checkpointing.proofs.Rowing.{Gathered}
 use Rattle.checkpointing.proofs.gather.gather.Given as goal
 
-abbrev pub invariant-loop-left : goal.invariant-loop-left
-invariant-loop-left g l =
-    (l.place < l.places)
-    × (l.left < l.places)
-    × (l.count + l.left < 255)
-    × (Came (g.S.Source.reads l.source) l.places l.blocks l.head l.tail l.place l.left)
-    × (Gathered (g.S.Source.reads l.source) l.places l.blocks l.head l.tail l.numbers l.slots l.count l.place l.left)
+abbrev pub invariant-loop-step : goal.invariant-loop-step
+invariant-loop-step g l =
+    (l.walk.source.now ≡ l.source)
+    × (l.walk.ring ≡ l.ring)
+    × (l.walk.blocks ≡ l.fn.blocks)
+    × (l.end ≡ l.walk.place)
+    × (length l.rows + l.walk.left < 255)
+    × Gathered (g.S.Source.reads l.walk.source.now) l.walk.ring.places l.walk.blocks l.walk.ring.head l.walk.ring.tail l.rows l.walk.place l.walk.left
 
-abbrev pub decreases-loop-left : goal.decreases-loop-left
-decreases-loop-left g l = l.left
+abbrev pub decreases-loop-step : goal.decreases-loop-step
+decreases-loop-step g l = l.walk.left

@@ -7,41 +7,30 @@ use Rattle.checkpointing.proofs.lay.lay_block.Goals as goal
 use Rattle.checkpointing.proofs.lay.lay_block.Goals.{in-Some+in_ok-words, in_default}
 
 pub loop-i-init : goal.loop-i-init
-loop-i-init g c = laid_none (g.S.Source.reads c.args.source.now) (place_in c.args.numbers.now c.args.slots.now c.args.count) c.args.block c.args.buf.now c.told-buf
+loop-i-init g c = laid_none (g.S.Source.reads c.args.source.now) (place_in c.args.rows.now) c.args.block c.args.buf.now c.told-buf
 
 pub loop-i-preserved : goal.loop-i-preserved
 loop-i-preserved g c =
     let reads = g.S.Source.reads c.args.source.now in
-    let place = place_in c.args.numbers.now c.args.slots.now c.args.count in
+    let place = place_in c.args.rows.now in
     let P : List ℕ → Type 0 = Laid reads place c.args.block c.args.buf.now (c.loop-i.i + 1) in
     elim c.match-place_of.branch [
       | in-Some+in_ok-words w ↦ subst P (sym w.buf-is)
           (laid_here reads place c.args.block c.args.buf.now c.loop-i.i w.in-Some.place w.in_ok-words.words c.loop-i.buf w.fill.new.image
-          (sym c.place_of.ensures ∙ w.in-Some.is) w.in_ok-words.ensures w.fill.ensures c.loop-i.invariant)
+          (sym c.place_of.ensures.place ∙ w.in-Some.is) w.in_ok-words.ensures w.fill.ensures c.loop-i.invariant)
       | in_default w ↦ subst P (sym w.buf-is)
-          (laid_passed reads place c.args.block c.args.buf.now c.loop-i.i c.loop-i.buf (sym c.place_of.ensures ∙ w.in_default.is) c.loop-i.invariant)
+          (laid_passed reads place c.args.block c.args.buf.now c.loop-i.i c.loop-i.buf (sym c.place_of.ensures.place ∙ w.in_default.is) c.loop-i.invariant)
     ]
-
-pub overflow_add-place : goal.overflow_add-place
-overflow_add-place g c =
-    let b = c.requires.1.1.1 _ c.in-Some.place (sym c.place_of.ensures ∙ c.in-Some.is) in
-    let m = c.requires.1.0 in
-    omega (arith, b, m)
-
-pub load_unit-requires : goal.load_unit-requires
-load_unit-requires g c =
-    let b = c.requires.1.1.1 _ c.in-Some.place (sym c.place_of.ensures ∙ c.in-Some.is) in
-    let m = c.requires.1.0 in
-    omega (arith, b, m)
 
 pub fill-requires : goal.fill-requires
 fill-requires g c = let l = c.loop-i.invariant.0 in (omega arith, omega arith)
 
 pub returns-in_err-words : goal.returns-in_err-words
 returns-in_err-words g c =
-    let b = c.requires.1.1.1 _ c.in-Some.place (sym c.place_of.ensures ∙ c.in-Some.is) in
     let p = err_from_is_err_and c.from_residual.result c.from_residual.ensures.1 in
-    rw (p.1, p.2) (wider (g.S.Source.reads c.args.source.now) (c.in-Some.place + 1 + 1) (c.args.places + 1) c.in_err-words.field-0.0 (omega (arith, b)) c.in_err-words.ensures)
+    rw (p.1, p.2) (λ units lie.
+    let b = lie _ c.in-Some.place (sym c.place_of.ensures.place ∙ c.in-Some.is) in
+    wider (g.S.Source.reads c.args.source.now) (c.in-Some.place + 1 + 1) units c.in_err-words.field-0.0 (omega (arith, b)) c.in_err-words.ensures)
 
 pub returns : goal.returns
 returns g c d a k lt = c.loop-i.invariant.1 d a k (omega arith)

@@ -3,4 +3,4 @@ use Rattle.checkpointing.proofs.Laying.{Laid}
 use Rattle.checkpointing.proofs.lay.lay_block.Given as goal
 
 abbrev pub invariant-loop-i : goal.invariant-loop-i
-invariant-loop-i g l = Laid (g.S.Source.reads l.source) (place_in l.numbers l.slots l.count) l.block l.initial.buf l.i l.buf
+invariant-loop-i g l = Laid (g.S.Source.reads l.source) (place_in l.rows) l.block l.initial.buf l.i l.buf

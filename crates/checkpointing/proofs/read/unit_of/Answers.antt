@@ -1,19 +1,14 @@
-use Rattle.std.proofs.Common.{◌<◌, ◌≢◌, length, refl, arith, length-set, get_or-set_other, get_or-set_same, below_more}
+use Rattle.std.proofs.Common.{◌+◌, ◌*◌, get_or, ap, ◌∙◌, arith}
+use Rattle.std.proofs.lemmas.List.Edits.{get_or-between}
 use Rattle.ringlaws.proofs.Units.{unit_is}
 use Rattle.ringunits.specs.Images.{contents_of}
 use Rattle.checkpointing.proofs.read.unit_of.Goals as goal
 
-pub loop-i-init : goal.loop-i-init
-loop-i-init c = (refl, λ k lt. absurd (omega arith))
-
-pub loop-i-preserved : goal.loop-i-preserved
-loop-i-preserved c =
-    let lt : c.loop-i.i < length c.loop-i.words = let l = c.loop-i.invariant.0 in omega arith in (
-      simp length-set c.loop-i.invariant.0,
-      below_more _ _
-          (λ k i. let ne : k ≢ c.loop-i.i = omega arith in rw get_or-set_other (c.loop-i.invariant.1 k i))
-          (rw get_or-set_same refl),
-    )
-
 pub returns : goal.returns
-returns c = unit_is (contents_of c.args.block.now) c.args.unit c.loop-i.words c.loop-i.invariant.0 (λ j lt. c.loop-i.invariant.1 j (omega arith))
+returns c =
+    let block = c.args.block.now in
+    let from = 32 * c.args.unit in
+    let words = c.copy_from_slice.new.self in
+    let long = c.copy_from_slice.ensures.len in
+    unit_is (contents_of block) c.args.unit words long
+    (λ j lt. ap (λ xs. get_or xs j 0) c.copy_from_slice.ensures.after ∙ get_or-between block from (from + 32) j 0 (omega arith))

@@ -1,18 +1,19 @@
-use Rattle.std.proofs.Common.{Some, sym, ap, ◌∙◌, arith}
+use Rattle.std.proofs.Common.{rules, tests, eqb, None, Some, ◌∙◌}
+use Rattle.std.proofs.lemmas.Iterator.{YieldsList-from_slice}
+use Rattle.std.proofs.lemmas.Iterator.Search.{find_from_yields_List}
+use Rattle.ringlaws.specs.declared.setting.Setting.{Setting}
 use Rattle.settings.specs.Puts.{list_of}
-use Rattle.settings.proofs.Positions.{found, missed, within, set_there, unset}
+use Rattle.settings.proofs.Positions.{unit_found}
 use Rattle.settings.proofs.kept.Settings.unit_of.Goals as goal
 
-pub index-requires : goal.index-requires
-index-requires c =
-    let h = within (found c.args.number c.in-Some.i c.as_slice.result.now (list_of c.args.self.now) c.as_slice.ensures.value c.in-Some.ensures) in
-    omega (arith, c.args.self.now.list.ok.0)
+pub returns-in_err-setting : goal.returns-in_err-setting
+returns-in_err-setting c =
+    c.from_residual.ensures ∙ unit_found c.args.number (list_of c.args.self.now) c.find.result None
+    (find_from_yields_List (λ (s : Setting). eqb s.number c.args.number) _ _ _ c.find.ensures.ran (YieldsList-from_slice (list_of c.args.self.now) cc) (λ x b q k. search (rules, tests)))
+    c.in_err-setting.was
 
-pub returns-in-Some : goal.returns-in-Some
-returns-in-Some c =
-    ap (λ s. Some s.unit) c.index.ensures
-    ∙ sym (set_there (found c.args.number c.in-Some.i c.as_slice.result.now (list_of c.args.self.now) c.as_slice.ensures.value c.in-Some.ensures) c.index.result.now)
-
-pub returns-in-None : goal.returns-in-None
-returns-in-None c =
-    sym (unset c.args.number (list_of c.args.self.now) (missed c.args.number c.as_slice.result.now (list_of c.args.self.now) c.as_slice.ensures.value c.in-None.ensures))
+pub returns : goal.returns
+returns c =
+    unit_found c.args.number (list_of c.args.self.now) c.find.result (Some c.in_ok-setting.setting)
+    (find_from_yields_List (λ (s : Setting). eqb s.number c.args.number) _ _ _ c.find.ensures.ran (YieldsList-from_slice (list_of c.args.self.now) cc) (λ x b q k. search (rules, tests)))
+    c.in_ok-setting.was
