@@ -1,8 +1,10 @@
--- What a search for the first newline says of the lines, and that a cut at each tab gives the fields.
-use Rattle.std.proofs.Common.{◌≡◌, ℕ, zero, suc, ◌+◌, ◌-◌, ◌<◌, cond, eqb, List, [], ◌∷◌, ◌++◌, length, take, drop, sym, refl, ap, ◌∙◌, subst, suc-le-suc, add-one, arith}
+-- What a search for the first newline says of the lines, that a cut at each tab gives the fields, and what a look-up among them gives.
+use Rattle.std.proofs.Common.{◌≡◌, ℕ, zero, suc, ◌+◌, ◌-◌, ◌<◌, cond, eqb, List, [], ◌∷◌, ◌++◌, length, get_or, take, drop, Bor, Some, None, Option, sym, refl, ap, ◌∙◌, subst, suc-le-suc, add-one, arith}
 use lib.Seq.{split_at}
-use Rattle.std.specs.List.{AllWithin, HoldsAt, slice_split, onto_first}
+use Rattle.std.specs.Option.{option_map, unwrap_or}
+use Rattle.std.specs.List.{AllWithin, HoldsAt, slice_get, slice_split, onto_first}
 use Rattle.std.proofs.lemmas.List.{take_all, take_rest}
+use Rattle.std.proofs.lemmas.Option.{unwrap_or-slice_get}
 use Rattle.lines.specs.Pieces.{begun, parted, lines_of, fields_of}
 use Rattle.lines.specs.Splits.{Free}
 use Rattle.lines.proofs.Cutting.{cut, uncut_line}
@@ -40,3 +42,8 @@ split_fields [] = refl
 split_fields (c ∷ cs) =
     ap (λ (ps : List (List ℕ)). cond (eqb c 9) ([] ∷ ps) (onto_first c ps)) (split_fields cs)
     ∙ ap (λ (ps : List (List ℕ)). cond (eqb c 9) ([] ∷ fields_of cs) ps) (begun_onto c (fields_of cs))
+
+-- a field that was found, or the one that stands for a field that is not there
+pub field_or : (o : Option (Bor (List ℕ))) (d : Bor (List ℕ)) (fields : List (List ℕ)) (k : ℕ) → option_map (λ x. x.now) o ≡ slice_get fields k → (unwrap_or o d).now ≡ get_or fields k d.now
+field_or None d fields k e = ap (λ (p : Option (List ℕ)). unwrap_or p d.now) e ∙ unwrap_or-slice_get fields k d.now
+field_or (Some x) d fields k e = ap (λ (p : Option (List ℕ)). unwrap_or p d.now) e ∙ unwrap_or-slice_get fields k d.now
