@@ -40,15 +40,9 @@ impl RecordKind for JoinedKind {
 
     fn decode(words: &[u64; 32]) -> Option<Joined> {
         if words[0] == 1 {
-            match TileKind::decode(words) {
-                Some(tile) => Some(Joined::Tile(tile)),
-                None => None,
-            }
+            TileKind::decode(words).map(Joined::from)
         } else {
-            match MastKind::decode(words) {
-                Some(mast) => Some(Joined::Mast(mast)),
-                None => None,
-            }
+            MastKind::decode(words).map(Joined::from)
         }
     }
 }

@@ -5,10 +5,7 @@ use tile::record::Tile;
 
 /// The number of the refusal, if it is one.
 fn number<T: Drop>(made: Result<T, Refusal>) -> Option<u32> {
-    match made {
-        Ok(_) => None,
-        Err(refusal) => Some(refusal.number()),
-    }
+    made.err().map(Refusal::number)
 }
 
 #[test]

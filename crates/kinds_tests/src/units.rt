@@ -22,7 +22,7 @@ fn words_of_a_tile(rt: HostRuntime) -> Result<(), Fail> {
     levels[1] = 500;
     levels[7] = -1;
     let tile = Tile::new(3, 4, 5, &levels)?;
-    let words = unit_of(&Joined::Tile(tile));
+    let words = unit_of(&Joined::from(tile));
     assert_eq!(rt; [words[0], words[1], words[2], words[3]], [1, 3, 4, 5]);
     assert_eq!(rt;
         [words[4], words[5], words[31]],
@@ -36,7 +36,7 @@ fn words_of_a_tile(rt: HostRuntime) -> Result<(), Fail> {
 #[test]
 fn words_of_a_mast(rt: HostRuntime) -> Result<(), Fail> {
     let mast = Mast::new(9, b"Ridge")?;
-    let words = unit_of(&Joined::Mast(mast));
+    let words = unit_of(&mast.into());
     assert_eq!(rt;
         [words[0], words[1], words[2], words[3], words[4]],
         [2, 9, 5, 0x65_6764_6952, 0]
@@ -50,8 +50,8 @@ fn words_of_a_mast(rt: HostRuntime) -> Result<(), Fail> {
 /// With all bits of one word turned, a unit reads only where that word may hold any number: a tile's plan, a mast's number.
 #[test]
 fn damaged_units(rt: HostRuntime) -> Result<(), Fail> {
-    let tile = unit_of(&Joined::Tile(Tile::flat(3, 4, 5, -800)?));
-    let mast = unit_of(&Joined::Mast(Mast::new(9, b"Ridge")?));
+    let tile = unit_of(&Tile::flat(3, 4, 5, -800)?.into());
+    let mast = unit_of(&Mast::new(9, b"Ridge")?.into());
     for i in 0..32usize {
         let mut words = tile;
         words[i] ^= u64::MAX;

@@ -1,2 +1,3 @@
 pub mod Fields
-pub mod Each
+pub mod FromFn
+pub mod Parts

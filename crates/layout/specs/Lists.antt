@@ -1,6 +1,6 @@
--- A test passed by each element of a list. Assumes nothing.
-use Rattle.std.specs.Prelude.{Bool, true, ◌&&◌, List, [], ◌∷◌}
+-- A test passed by each element of a list: std's `list_all`. Assumes nothing.
+use Rattle.std.specs.Prelude.{Bool, List}
+use Rattle.std.specs.List.{list_all}
 
 abbrev pub each : {X : Type 0} → (X → Bool) → List X → Bool
-each test [] = true
-each test (x ∷ xs) = test x && each test xs
+each test xs = list_all test xs

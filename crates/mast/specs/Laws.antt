@@ -1,5 +1,5 @@
 -- The three laws of the mast kind, and which units read as a mast.
-use Rattle.std.specs.Prelude.{◌≡◌, ℕ, ◌+◌, ◌-◌, ◌^◌, ◌<◌, ◌≤◌, Bool, true, false, cond, List, length, take, drop, is_some, Some, None, Ok, Err, Option, Result, MatchResult, ◌≢◌, nat_le, slice_index, slice_index_or, slice_range, refl}
+use Rattle.std.specs.Prelude.{◌≡◌, ℕ, ◌+◌, ◌-◌, ◌^◌, ◌*◌, ◌<◌, ◌≤◌, Bool, true, false, cond, List, ◌∷◌, length, take, drop, is_some, Some, None, Ok, Err, Option, Result, MatchResult, ◌≢◌, nat_le, slice_index, slice_index_or, slice_range, refl}
 use Rattle.std.proofs.Common.{ap, sym, subst, ◌∙◌, inl, inr, arith}
 use denote.Struct.Record.{values_one}
 use Rattle.std.specs.Result.{result_ok}
@@ -9,12 +9,16 @@ use Rattle.std.proofs.lemmas.List.{ext_get_or, get_or-take, get_or-drop, get_or_
 use Rattle.std.proofs.lemmas.Bool.{and_from, and_parts, leb-true, le-leb, eqb-true, eq-eqb, cond-true, cond-false, cases_Bool, both_ways}
 use Rattle.refusal.specs.declared.reason.Refusal.{Refusal}
 use Rattle.refusal.specs.declared.reason.Refusal.TheVariants.{NameLength, NameByte}
-use Rattle.layout.specs.Lists.{each}
-use Rattle.layout.proofs.Each.{each_at, each_from}
+use Rattle.std.specs.List.{list_all}
+use Rattle.std.proofs.lemmas.List.FromFn.{length-map-range_with_len, get_or-map-range_with_len, fill_by_all}
+use Rattle.layout.specs.Fields.{word_of}
+use Rattle.layout.proofs.Fields.{packed_same}
+use Rattle.std.proofs.lemmas.List.Elements.{All-from_get_or}
+use Rattle.std.proofs.lemmas.List.Sums.{AllPass-from_list_all, list_all-from_AllPass}
 use Rattle.mast.specs.Names.{is_printed, is_padding, is_length, is_name, mast_refusal, padded_name}
 use Rattle.mast.specs.declared.record.Mast.{Mast}
 use Rattle.mast.specs.contracts.record.Mast.{struct, the_propositions}
-use Rattle.mast.specs.Masts.{name_of, Made, mast_words, mast_unit, byte_at, bytes_in, name_in, mast_if, mast_reads, MastShape, MastsReadExactly}
+use Rattle.mast.specs.Masts.{name_of, Made, byte_of, name_words, mast_words, mast_unit, byte_at, bytes_in, name_in, mast_if, mast_reads, MastShape, MastsReadExactly}
 use Rattle.mast.specs.Units.{length_name, front, byte_in, bytes_long, name_long, byte_at_lem, name_back, unit_whole}
 
 pub size_is : (m : Mast) → length (name_of m) ≡ m.size
@@ -22,6 +26,17 @@ size_is m = length_name m.bytes m.size 232 m.whole m.most
 
 pub byte_is : (m : Mast) (j : ℕ) → slice_index (name_of m) j ≡ slice_index m.bytes j
 byte_is m j = front m.bytes m.size j (omega (arith, m.whole, m.most)) (m.padded j)
+
+-- a mast's unit is made of its fields as they are kept
+pub unit_is : (m : Mast) → 2 ∷ m.number ∷ m.size ∷ name_words m.bytes ≡ mast_unit m
+unfolding name_words
+unit_is m =
+    let words : name_words m.bytes ≡ name_words (name_of m) =
+    fill_by_all (word_of 8 8 (byte_of (name_of m))) (name_words m.bytes) 29 0 (length-map-range_with_len (word_of 8 8 (byte_of m.bytes)) 0 29)
+    (λ k lt.
+    get_or-map-range_with_len (word_of 8 8 (byte_of m.bytes)) 0 29 k k 0 lt (omega arith)
+    ∙ packed_same 8 8 (λ i. byte_of m.bytes (k * 8 + i)) (λ i. byte_of (name_of m) (k * 8 + i)) (λ i _. sym (byte_is m (k * 8 + i)))) in
+    ap (λ (ws : List ℕ). 2 ∷ m.number ∷ m.size ∷ ws) words ∙ ap (λ (n : ℕ). 2 ∷ m.number ∷ n ∷ name_words (name_of m)) (sym (size_is m))
 
 -- masts of the same number and name are the same
 same_mast : (a b : Mast) → a.number ≡ b.number → name_of a ≡ name_of b → a ≡ b
@@ -80,9 +95,9 @@ unit_fits u m e = ap (λ (v : List ℕ). is_name (name_in v)) e ∙ ap is_name (
 -- a mast's name is not refused
 accepted : (name : List ℕ) → is_name name ≡ true → mast_refusal name ≡ None
 accepted name fits =
-    let parts = and_parts (is_length (length name)) (each is_printed name) fits in
-    cond-true (is_length (length name)) (cond (each is_printed name) None (Some NameByte)) (Some NameLength) parts.0
-    ∙ cond-true (each is_printed name) None (Some NameByte) parts.1
+    let parts = and_parts (is_length (length name)) (list_all is_printed name) fits in
+    cond-true (is_length (length name)) (cond (list_all is_printed name) None (Some NameByte)) (Some NameLength) parts.0
+    ∙ cond-true (list_all is_printed name) None (Some NameByte) parts.1
 
 rest_long : (u : List ℕ) (size : ℕ) → length (slice_range (bytes_in u) size 232) ≡ 232 - size
 rest_long u size = length-take-le (232 - size) (drop size (bytes_in u)) (omega (arith, length-drop size (bytes_in u), bytes_long u))
@@ -111,26 +126,26 @@ made_reads u name (Err e) long kind fits most padding found refused =
     omega arith))
 
 -- the bytes after the name are zero, one by one or tested together
-pub padding_of : (u : List ℕ) (size : ℕ) → each is_padding (slice_range (bytes_in u) size 232) ≡ true → size ≤ 232 → (j : ℕ) → size ≤ j → j < 232 → byte_at u j ≡ 0
+pub padding_of : (u : List ℕ) (size : ℕ) → list_all is_padding (slice_range (bytes_in u) size 232) ≡ true → size ≤ 232 → (j : ℕ) → size ≤ j → j < 232 → byte_at u j ≡ 0
 padding_of u size h le j ge lt =
     let k : ℕ = j - size in
     let at : size + k ≡ j = omega arith in
     let rest : List ℕ = take (232 - size) (drop size (bytes_in u)) in
     let long : k < length rest = omega (arith, rest_long u size) in
-    sym (rest_at u size j k at lt) ∙ eqb-true (slice_index rest k) 0 (each_at is_padding rest k 0 h long)
+    sym (rest_at u size j k at lt) ∙ eqb-true (slice_index rest k) 0 (AllPass-from_list_all is_padding rest h k 0 long)
 
-pub of_padding : (u : List ℕ) (size : ℕ) → ((j : ℕ) → size ≤ j → j < 232 → byte_at u j ≡ 0) → each is_padding (slice_range (bytes_in u) size 232) ≡ true
+pub of_padding : (u : List ℕ) (size : ℕ) → ((j : ℕ) → size ≤ j → j < 232 → byte_at u j ≡ 0) → list_all is_padding (slice_range (bytes_in u) size 232) ≡ true
 of_padding u size h =
     let rest : List ℕ = take (232 - size) (drop size (bytes_in u)) in
-    each_from is_padding rest 0 (λ k lt.
+    list_all-from_AllPass is_padding rest (All-from_get_or (λ x. is_padding x ≡ true) rest 0 (λ k lt.
     let small : size + k < 232 = omega (arith, rest_long u size) in
     let ge : size ≤ size + k = omega arith in
-    eq-eqb (slice_index rest k) 0 (rest_at u size (size + k) k refl small ∙ h (size + k) ge small))
+    eq-eqb (slice_index rest k) 0 (rest_at u size (size + k) k refl small ∙ h (size + k) ge small)))
 
 pub shape_of : (m : Mast) → MastShape (mast_unit m)
 shape_of m =
     let name : List ℕ = name_of m in
-    let parts = and_parts (is_length (length name)) (each is_printed name) m.named in
+    let parts = and_parts (is_length (length name)) (list_all is_printed name) m.named in
     let long = and_parts (nat_le 1 (length name)) (nat_le (length name) 232) parts.0 in
     let most : length name ≤ 232 = leb-true (length name) 232 long.1 in
     record {
@@ -139,7 +154,7 @@ shape_of m =
       most = most;
       printed = λ j lt.
           let small : j < 232 = omega arith in
-          ap is_printed (byte_at_lem m.number name m.named j small) ∙ each_at is_printed name j 0 parts.1 lt;
+          ap is_printed (byte_at_lem m.number name m.named j small) ∙ AllPass-from_list_all is_printed name parts.1 j 0 lt;
       padding = λ j ge lt. byte_at_lem m.number name m.named j lt ∙ get_or_past name j 0 ge;
     }
 
@@ -162,12 +177,12 @@ reads_some u e fits =
 shape_fits : (u : List ℕ) → MastShape u → is_name (name_in u) ≡ true
 shape_fits u shape =
     let long : length (name_in u) ≡ slice_index_or u 2 0 = name_long u shape.most in
-    and_from (is_length (length (name_in u))) (each is_printed (name_in u))
+    and_from (is_length (length (name_in u))) (list_all is_printed (name_in u))
     (ap is_length long ∙ and_from (nat_le 1 (slice_index u 2)) (nat_le (slice_index u 2) 232) (le-leb 1 (slice_index u 2) shape.least) (le-leb (slice_index u 2) 232 shape.most))
-    (each_from is_printed (name_in u) 0 (λ j lt.
+    (list_all-from_AllPass is_printed (name_in u) (All-from_get_or (λ x. is_printed x ≡ true) (name_in u) 0 (λ j lt.
     let in' : j < slice_index_or u 2 0 = omega arith in
     let small : j < 232 = omega (arith, shape.most) in
-    ap is_printed (get_or-take (slice_index u 2) (bytes_in u) j 0 in' ∙ byte_in u j small) ∙ shape.printed j in'))
+    ap is_printed (get_or-take (slice_index u 2) (bytes_in u) j 0 in' ∙ byte_in u j small) ∙ shape.printed j in')))
 
 pub masts_read_exactly : MastsReadExactly
 masts_read_exactly u long fits = (

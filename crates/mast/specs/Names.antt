@@ -5,7 +5,7 @@ use Rattle.std.proofs.lemmas.List.{length-append, length-replicate, take_at, get
 use Rattle.std.proofs.lemmas.Bool.{and_parts, leb-true}
 use Rattle.refusal.specs.declared.reason.Refusal.{Refusal}
 use Rattle.refusal.specs.declared.reason.Refusal.TheVariants.{NameLength, NameByte}
-use Rattle.layout.specs.Lists.{each}
+use Rattle.std.specs.List.{list_all}
 
 -- printed ASCII
 abbrev pub is_printed : ℕ → Bool
@@ -20,11 +20,11 @@ abbrev pub is_length : ℕ → Bool
 is_length n = nat_le 1 n && nat_le n 232
 
 abbrev pub is_name : List ℕ → Bool
-is_name name = is_length (length name) && each is_printed name
+is_name name = is_length (length name) && list_all is_printed name
 
 -- Why there is no mast of this name, if there is none: first the length, then the bytes.
 abbrev pub mast_refusal : List ℕ → Option Refusal
-mast_refusal name = cond (is_length (length name)) (cond (each is_printed name) None (Some NameByte)) (Some NameLength)
+mast_refusal name = cond (is_length (length name)) (cond (list_all is_printed name) None (Some NameByte)) (Some NameLength)
 
 -- a name, with zeros up to 232 bytes
 abbrev pub padded : List ℕ → List ℕ
@@ -32,7 +32,7 @@ padded name = name ++ replicate (232 - length name) 0
 
 -- What the type of masts asks of padded names.
 pub short : (name : List ℕ) → is_name name ≡ true → length name ≤ 232
-short name h = leb-true (length name) 232 (and_parts (nat_le 1 (length name)) (nat_le (length name) 232) (and_parts (is_length (length name)) (each is_printed name) h).0).1
+short name h = leb-true (length name) 232 (and_parts (nat_le 1 (length name)) (nat_le (length name) 232) (and_parts (is_length (length name)) (list_all is_printed name) h).0).1
 
 pub padded_whole : (name : List ℕ) → length name ≤ 232 → length (padded name) ≡ 232
 padded_whole name le =

@@ -10,9 +10,9 @@ use Rattle.std.proofs.lemmas.Str.Ascii.{IsAscii-from_reads}
 use Rattle.std.proofs.lemmas.Str.{IsUtf8-from_ascii}
 use Rattle.std.proofs.lemmas.Bool.{cases_lt, and_parts, leb-true}
 use Rattle.layout.specs.Fields.{word_of}
-use Rattle.layout.specs.Lists.{each}
+use Rattle.std.specs.List.{list_all}
 use Rattle.layout.proofs.Fields.{fields_come_back, words_come_back, packed_same}
-use Rattle.layout.proofs.Each.{each_at}
+use Rattle.std.proofs.lemmas.List.Sums.{AllPass-from_list_all}
 use Rattle.mast.specs.Names.{is_printed, is_length, is_name, mast_refusal, padded, short, padded_whole, padded_after}
 use Rattle.mast.specs.Masts.{byte_of, name_words, mast_words, byte_at, bytes_in, name_in}
 
@@ -44,7 +44,7 @@ passed false b e = let z : ◌≡◌ {A = ℕ} 0 1 = cc in absurd (omega arith)
 
 -- what is not refused is a name
 pub name_fits : (name : List ℕ) → None ≡ mast_refusal name → is_name name ≡ true
-name_fits name e = passed (is_length (length name)) (each is_printed name) (sym e)
+name_fits name e = passed (is_length (length name)) (list_all is_printed name) (sym e)
 
 -- an array that holds a name and is zero after it is the padded name
 pub padded_by : (name bytes : List ℕ) → length name ≤ 232 → length bytes ≡ 232 → ((k : ℕ) → k < length name → slice_index bytes k ≡ slice_index name k)
@@ -56,14 +56,14 @@ padded_by name bytes le whole same after =
       | inr ge ↦ after k ge ∙ sym (padded_after name k ge)
     ])
 
-printed_of : (name : List ℕ) → is_name name ≡ true → each is_printed name ≡ true
-printed_of name fits = (and_parts (is_length (length name)) (each is_printed name) fits).1
+printed_of : (name : List ℕ) → is_name name ≡ true → list_all is_printed name ≡ true
+printed_of name fits = (and_parts (is_length (length name)) (list_all is_printed name) fits).1
 
 byte_small : (name : List ℕ) → is_name name ≡ true → (j : ℕ) → byte_of name j < 2 ^ 8
 byte_small name fits j =
     elim (cases_lt j (length name)) [
       | inl lt ↦
-          let parts = and_parts (nat_le 32 (slice_index name j)) (nat_le (slice_index name j) 126) (each_at is_printed name j 0 (printed_of name fits) lt) in
+          let parts = and_parts (nat_le 32 (slice_index name j)) (nat_le (slice_index name j) 126) (AllPass-from_list_all is_printed name (printed_of name fits) j 0 lt) in
           omega (arith, leb-true (slice_index name j) 126 parts.1)
       | inr ge ↦ omega (arith, get_or_past name j 0 ge)
     ]
@@ -72,7 +72,7 @@ byte_small name fits j =
 pub name_text : (name : List ℕ) → is_name name ≡ true → IsUtf8 name
 name_text name fits =
     IsUtf8-from_ascii name (IsAscii-from_reads name (length name) (omega arith) (λ k lt.
-    let parts = and_parts (nat_le 32 (slice_index name k)) (nat_le (slice_index name k) 126) (each_at is_printed name k 0 (printed_of name fits) lt) in
+    let parts = and_parts (nat_le 32 (slice_index name k)) (nat_le (slice_index name k) 126) (AllPass-from_list_all is_printed name (printed_of name fits) k 0 lt) in
     omega (arith, leb-true (slice_index name k) 126 parts.1)))
 
 pub byte_in : (u : List ℕ) (j : ℕ) → j < 232 → slice_index (bytes_in u) j ≡ byte_at u j

@@ -1,8 +1,8 @@
 //! The mast kind: a mast as a unit of 32 words, and the units that read as a mast.
 ghost use Rattle.std.specs.Prelude.{◌≡◌, ◌<◌};
 ghost use Rattle.std.proofs.Math.Path.{refl};
-ghost use Rattle.layout.specs.Fields.{word_of, field};
-ghost use Rattle.layout.specs.Lists.{each};
+ghost use Rattle.layout.specs.Fields.{word_of};
+ghost use Rattle.std.specs.List.{list_all};
 ghost use Rattle.mast.specs.Names.{is_padding};
 ghost use Rattle.mast.specs.Masts.{byte_of, bytes_in, mast_unit, mast_reads, MastsReadExactly, name_words};
 ghost use Rattle.mast.specs.Laws;
@@ -10,54 +10,36 @@ ghost use Rattle.std.proofs.Common.{rules};
 
 use crate::record::Mast;
 use kinds::kind::RecordKind;
+use layout::field;
+use std::array;
 
 /// Word `k` of a name: eight bytes, the first in its lowest eight bits.
 fn name_word(bytes: &[u8; 232], k: usize) -> u64
     requires { k < 29 }
     ensures { result ≡ word_of 8 8 (byte_of bytes.now) k }
 {
-    let j = k * 8;
-    u64::from_le_bytes([
-        bytes[j],
-        bytes[j + 1],
-        bytes[j + 2],
-        bytes[j + 3],
-        bytes[j + 4],
-        bytes[j + 5],
-        bytes[j + 6],
-        bytes[j + 7],
-    ])
+    u64::from_le_bytes(array::from_fn(|i| bytes[k * 8 + i]))
 }
 
-/// Byte `i` of a word.
-fn byte_in(word: u64, i: usize) -> u8
-    requires { i < 8 }
-    ensures { result ≡ field 8 word i }
+/// The 29 words that a name stands in.
+fn name_words(bytes: &[u8; 232]) -> [u64; 29]
+    ensures { result ≡ name_words bytes.now }
 {
-    ((word >> (8 * i)) & 0xff) as u8
+    array::from_fn(|k| name_word(bytes, k))
 }
 
 /// The 232 bytes that a unit has for a name.
 fn bytes_in(words: &[u64; 32]) -> [u8; 232]
     ensures { result ≡ bytes_in words.now }
 {
-    let mut bytes = [0u8; 232];
-    for j in 0..232usize {
-        bytes[j] = byte_in(words[3 + j / 8], j % 8);
-    }
-    bytes
+    array::from_fn(|j| field::<8>(words[3 + j / 8], j % 8) as u8)
 }
 
 /// Whether all of the bytes are zero.
 fn are_padding(bytes: &[u8]) -> bool
-    ensures { result ≡ each is_padding bytes.now }
+    ensures { result ≡ list_all is_padding bytes.now }
 {
-    for byte in bytes {
-        if *byte != 0 {
-            return false;
-        }
-    }
-    true
+    bytes.iter().all(|&byte| byte == 0)
 }
 
 /// The kind of mast records.
@@ -79,12 +61,8 @@ impl RecordKind for MastKind {
     ghost only = { Laws.only };
 
     fn encode(value: &Mast, place: &mut [u64; 32]) {
-        place[0] = 2;
-        place[1] = value.number;
-        place[2] = value.size as u64;
-        for k in 0..29usize {
-            place[3 + k] = name_word(&value.bytes, k);
-        }
+        place[..3].copy_from_slice(&[2, value.number, value.size as u64]);
+        place[3..].copy_from_slice(&name_words(&value.bytes));
     }
 
     fn decode(words: &[u64; 32]) -> Option<Mast> {

@@ -1,6 +1,6 @@
 //! Making a mast, and asking it.
 ghost use Rattle.std.specs.Prelude.{◌≡◌, ◌≤◌, length, Some, MatchResult};
-ghost use Rattle.layout.specs.Lists.{each};
+ghost use Rattle.std.specs.List.{list_all};
 ghost use Rattle.mast.specs.Names.{is_printed, mast_refusal, padded};
 ghost use Rattle.mast.specs.Masts.{Made, name_of};
 
@@ -17,28 +17,9 @@ fn is_printed(byte: u8) -> bool
 
 /// Whether all of the bytes are printed ASCII.
 fn are_printed(name: &[u8]) -> bool
-    ensures { result ≡ each is_printed name.now }
+    ensures { result ≡ list_all is_printed name.now }
 {
-    for byte in name {
-        if !is_printed(*byte) {
-            return false;
-        }
-    }
-    true
-}
-
-/// Why there is no mast of this name, if there is none: a bad length comes before a bad byte.
-fn name_refusal(name: &[u8]) -> Option<Refusal>
-    ensures { result ≡ mast_refusal name.now }
-{
-    let size = name.len();
-    if size == 0 || size > Mast::LONGEST {
-        return Some(Refusal::NameLength);
-    }
-    if !are_printed(name) {
-        return Some(Refusal::NameByte);
-    }
-    None
+    name.iter().all(|&byte| is_printed(byte))
 }
 
 /// A name with zeros after it.
@@ -47,9 +28,7 @@ fn padded_name(name: &[u8]) -> [u8; 232]
     ensures { result ≡ padded name.now }
 {
     let mut bytes = [0u8; 232];
-    for i in 0..name.len() {
-        bytes[i] = name[i];
-    }
+    bytes[..name.len()].copy_from_slice(name);
     bytes
 }
 
@@ -57,19 +36,22 @@ impl Mast {
     /// The most bytes that a name can have.
     pub const LONGEST: usize = 232;
 
-    /// A mast with this number and name, or why there is none. The mast is the answer itself: a refusal has no place of the
+    /// A mast with this number and name, or why there is none: a bad length comes before a bad byte. The mast is the answer itself: a refusal has no place of the
     /// caller's that it could spoil.
     pub fn new(number: u64, name: &[u8]) -> Result<Mast, Refusal>
         ensures { MatchResult result (Made number name.now) (λ e. mast_refusal name.now ≡ Some e) }
     {
-        match name_refusal(name) {
-            Some(refusal) => Err(refusal),
-            None => Ok(Mast {
-                number,
-                size: name.len(),
-                bytes: padded_name(name),
-            }),
+        if name.is_empty() || name.len() > Mast::LONGEST {
+            return Err(Refusal::NameLength);
         }
+        if !are_printed(name) {
+            return Err(Refusal::NameByte);
+        }
+        Ok(Mast {
+            number,
+            size: name.len(),
+            bytes: padded_name(name),
+        })
     }
 
     pub fn number(&self) -> u64
@@ -88,9 +70,6 @@ impl Mast {
     pub fn text(&self) -> &str
         ensures { result.now ≡ name_of self.now }
     {
-        match from_utf8(self.name()) {
-            Ok(text) => text,
-            Err(_) => unreachable(),
-        }
+        from_utf8(self.name()).unwrap()
     }
 }

@@ -8,8 +8,9 @@ use Rattle.std.proofs.lemmas.Slice.Eq.{bytes_eq-Decides}
 use Rattle.std.proofs.lemmas.Bool.{and_from, and_parts, le-leb, cond-true, cond-false, cases_Bool, both_ways}
 use Rattle.refusal.specs.declared.reason.Refusal.{Refusal}
 use Rattle.refusal.specs.declared.reason.Refusal.TheVariants.{ColumnOrRow, Level}
-use Rattle.layout.specs.Lists.{each}
-use Rattle.layout.proofs.Each.{each_at, each_from}
+use Rattle.std.specs.List.{list_all}
+use Rattle.std.proofs.lemmas.List.Elements.{All-from_get_or}
+use Rattle.std.proofs.lemmas.List.Sums.{AllPass-from_list_all, list_all-from_AllPass}
 use Rattle.tile.specs.Ranges.{is_level, is_place, is_tile}
 use Rattle.tile.specs.declared.record.Tile.{Tile}
 use Rattle.tile.specs.contracts.record.Tile.{struct, the_propositions}
@@ -23,7 +24,7 @@ same_tile a b p q r s = values_one struct the_propositions a b (λ i. (p i, (q i
 -- the fields of a tile are in range
 pub fields_fit : (t : Tile) → is_tile t.column t.row t.levels ≡ true
 fields_fit t =
-    and_from (is_place t.column t.row) (each is_level t.levels)
+    and_from (is_place t.column t.row) (list_all is_level t.levels)
     (and_from (nat_le t.column 65535) (nat_le t.row 65535) (le-leb t.column 65535 t.across) (le-leb t.row 65535 t.down))
     t.ranged
 
@@ -80,9 +81,9 @@ unit_fits u t e =
 -- fields in range are not refused
 accepted : (column row : ℕ) (levels : List ℤ) → is_tile column row levels ≡ true → tile_refusal column row levels ≡ None
 accepted column row levels fits =
-    let parts = and_parts (is_place column row) (each is_level levels) fits in
-    cond-true (is_place column row) (cond (each is_level levels) None (Some Level)) (Some ColumnOrRow) parts.0
-    ∙ cond-true (each is_level levels) None (Some Level) parts.1
+    let parts = and_parts (is_place column row) (list_all is_level levels) fits in
+    cond-true (is_place column row) (cond (list_all is_level levels) None (Some Level)) (Some ColumnOrRow) parts.0
+    ∙ cond-true (list_all is_level levels) None (Some Level) parts.1
 
 -- making a tile of the fields that stand in a unit reads the unit
 pub made_reads : (u : List ℕ) (levels : List ℤ) (r : Result Tile Refusal) → length u ≡ 32 → slice_index u 0 ≡ 1 → ((i : ℕ) → slice_index u i < 2 ^ 64) → levels ≡ levels_in u
@@ -109,7 +110,7 @@ shape_of t = record {
   row = t.down;
   levels = λ s lt.
       ap is_level (level_at_lem t.column t.row t.plan t.levels t.ranged t.whole s lt)
-      ∙ each_at is_level t.levels s (pos 0) t.ranged (omega (arith, t.whole));
+      ∙ AllPass-from_list_all is_level t.levels t.ranged s (pos 0) (omega (arith, t.whole));
 }
 
 shape_from : (u : List ℕ) (o : Option Tile) → tile_reads u ≡ o → is_some o ≡ true → TileShape u
@@ -130,11 +131,11 @@ reads_some u e fits =
 
 shape_fits : (u : List ℕ) → TileShape u → is_tile (slice_index u 1) (slice_index u 2) (levels_in u) ≡ true
 shape_fits u shape =
-    and_from (is_place (slice_index u 1) (slice_index u 2)) (each is_level (levels_in u))
+    and_from (is_place (slice_index u 1) (slice_index u 2)) (list_all is_level (levels_in u))
     (and_from (nat_le (slice_index u 1) 65535) (nat_le (slice_index u 2) 65535) (le-leb (slice_index u 1) 65535 shape.column) (le-leb (slice_index u 2) 65535 shape.row))
-    (each_from is_level (levels_in u) (pos 0) (λ s lt.
+    (list_all-from_AllPass is_level (levels_in u) (All-from_get_or (λ x. is_level x ≡ true) (levels_in u) (pos 0) (λ s lt.
     let small : s < 112 = omega (arith, levels_in_long u) in
-    ap is_level (level_in u s small) ∙ shape.levels s small))
+    ap is_level (level_in u s small) ∙ shape.levels s small)))
 
 pub tiles_read_exactly : TilesReadExactly
 tiles_read_exactly u long fits =

@@ -9,13 +9,13 @@ use Rattle.std.proofs.lemmas.Bool.{leb-true, and_parts}
 use Rattle.refusal.specs.declared.reason.Refusal.{Refusal}
 use Rattle.refusal.specs.declared.reason.Refusal.TheVariants.{ColumnOrRow, Level}
 use Rattle.layout.specs.Fields.{word_of, field_at}
-use Rattle.layout.specs.Lists.{each}
+use Rattle.std.specs.List.{list_all}
 use Rattle.tile.specs.Ranges.{is_level, is_place, is_tile}
 use Rattle.tile.specs.declared.record.Tile.{Tile}
 
 -- Why there is no tile with these fields, if there is none: first the column or row, then the levels.
 abbrev pub tile_refusal : (column row : ℕ) → List ℤ → Option Refusal
-tile_refusal column row levels = cond (is_place column row) (cond (each is_level levels) None (Some Level)) (Some ColumnOrRow)
+tile_refusal column row levels = cond (is_place column row) (cond (list_all is_level levels) None (Some Level)) (Some ColumnOrRow)
 
 -- the tile that was made of these fields
 pub record Made (column row plan : ℕ) (levels : List ℤ) (t : Tile) : Type 0 where
@@ -58,7 +58,7 @@ levels_in_long unit = length-map-range_with_len (level_at unit) 0 112
 -- the tile with these fields, where they are a tile's
 abbrev pub tile_if : (column row plan : ℕ) (levels : List ℤ) → length levels ≡ 112 → (b : Bool) → is_tile column row levels ≡ b → Option Tile
 tile_if column row plan levels long true fits =
-    let place = and_parts (is_place column row) (each is_level levels) fits in
+    let place = and_parts (is_place column row) (list_all is_level levels) fits in
     let each' = and_parts (nat_le column 65535) (nat_le row 65535) place.0 in
     Some (record {
       column = column;

@@ -10,9 +10,9 @@ use Rattle.std.proofs.lemmas.List.{ext_get_or, get_or_past}
 use Rattle.std.proofs.lemmas.Int.{ints, to_z-of_z, of_z-to_z}
 use Rattle.std.proofs.lemmas.Bool.{cases_lt}
 use Rattle.layout.specs.Fields.{word_of, field_at}
-use Rattle.layout.specs.Lists.{each}
+use Rattle.std.specs.List.{list_all}
 use Rattle.layout.proofs.Fields.{fields_come_back, words_come_back, packed_same}
-use Rattle.layout.proofs.Each.{each_at}
+use Rattle.std.proofs.lemmas.List.Sums.{AllPass-from_list_all}
 use Rattle.tile.specs.Ranges.{is_level}
 use Rattle.tile.specs.Tiles.{level_bits, level_words, tile_words, level_at, levels_in}
 
@@ -20,10 +20,10 @@ use Rattle.tile.specs.Tiles.{level_bits, level_words, tile_words, level_at, leve
 pub level_fits : (z : ℤ) → is_level z ≡ true → FitsSigned w16 z
 level_fits z h = grind (arith, ints)
 
-bits_small : (levels : List ℤ) → each is_level levels ≡ true → (s : ℕ) → level_bits levels s < 2 ^ 16
+bits_small : (levels : List ℤ) → list_all is_level levels ≡ true → (s : ℕ) → level_bits levels s < 2 ^ 16
 bits_small levels h s =
     elim (cases_lt s (length levels)) [
-      | inl lt ↦ let f : FitsSigned w16 (slice_index_or levels s (pos 0)) = level_fits (slice_index_or levels s (pos 0)) (each_at is_level levels s (pos 0) h lt) in omega (arith, ints)
+      | inl lt ↦ let f : FitsSigned w16 (slice_index_or levels s (pos 0)) = level_fits (slice_index_or levels s (pos 0)) (AllPass-from_list_all is_level levels h s (pos 0) lt) in omega (arith, ints)
       | inr ge ↦ let e : level_bits levels s ≡ 0 = ap (of_z w16) (get_or_past levels s (pos 0) ge) in omega arith
     ]
 
@@ -34,13 +34,13 @@ module _ (column row plan : ℕ) (levels : List ℤ) where
       ap (λ (i : ℕ). slice_index (tile_words column row plan levels) i) (let e : 4 + k ≡ suc (suc (suc (suc k))) = omega arith in e)
       ∙ get_or-map-range_with_len (word_of 16 4 (level_bits levels)) 0 28 k k 0 lt (omega arith)
 
-  pub level_at_lem : each is_level levels ≡ true → length levels ≡ 112 → (s : ℕ) → s < 112 → level_at (tile_words column row plan levels) s ≡ slice_index_or levels s (pos 0)
+  pub level_at_lem : list_all is_level levels ≡ true → length levels ≡ 112 → (s : ℕ) → s < 112 → level_at (tile_words column row plan levels) s ≡ slice_index_or levels s (pos 0)
   level_at_lem h long s lt =
       ap (to_z w16) (fields_come_back 16 4 4 28 (level_bits levels) (tile_words column row plan levels) (omega arith) (bits_small levels h) word_at s (omega arith))
-      ∙ to_z-of_z w16 (slice_index_or levels s (pos 0)) (level_fits (slice_index_or levels s (pos 0)) (each_at is_level levels s (pos 0) h (omega arith)))
+      ∙ to_z-of_z w16 (slice_index_or levels s (pos 0)) (level_fits (slice_index_or levels s (pos 0)) (AllPass-from_list_all is_level levels h s (pos 0) (omega arith)))
 
   -- the levels of a tile's unit are the tile's
-  pub levels_back : each is_level levels ≡ true → length levels ≡ 112 → levels_in (tile_words column row plan levels) ≡ levels
+  pub levels_back : list_all is_level levels ≡ true → length levels ≡ 112 → levels_in (tile_words column row plan levels) ≡ levels
   unfolding levels_in
   levels_back h long =
       sym (fill_by_all (level_at (tile_words column row plan levels)) levels 112 (pos 0) long (λ s lt. sym (level_at_lem h long s lt)))

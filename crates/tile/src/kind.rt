@@ -9,6 +9,8 @@ ghost use Rattle.tile.specs.Laws;
 
 use crate::record::Tile;
 use kinds::kind::RecordKind;
+use layout::field;
+use std::array;
 
 /// Word `k` of the levels: four of them, the first in its lowest 16 bits.
 fn level_word(levels: &[i16; 112], k: usize) -> u64
@@ -23,23 +25,26 @@ fn level_word(levels: &[i16; 112], k: usize) -> u64
     a + b * 0x1_0000 + c * 0x1_0000_0000 + d * 0x1_0000_0000_0000
 }
 
+/// The 28 words that the levels stand in.
+fn level_words(levels: &[i16; 112]) -> [u64; 28]
+    ensures { result ≡ level_words levels.now }
+{
+    array::from_fn(|k| level_word(levels, k))
+}
+
 /// Level `i` of a word.
 fn level_in(word: u64, i: usize) -> i16
     requires { i < 4 }
     ensures { result ≡ to_z w16 (field 16 word i) }
 {
-    (((word >> (16 * i)) & 0xffff) as u16).cast_signed()
+    (field::<16>(word, i) as u16).cast_signed()
 }
 
 /// The 112 levels that stand in a unit.
 fn levels_in(words: &[u64; 32]) -> [i16; 112]
     ensures { result ≡ levels_in words.now }
 {
-    let mut levels = [0i16; 112];
-    for s in 0..112usize {
-        levels[s] = level_in(words[4 + s / 4], s % 4);
-    }
-    levels
+    array::from_fn(|s| level_in(words[4 + s / 4], s % 4))
 }
 
 /// The kind of tile records.
@@ -61,13 +66,8 @@ impl RecordKind for TileKind {
     ghost only = { Laws.only };
 
     fn encode(value: &Tile, place: &mut [u64; 32]) {
-        place[0] = 1;
-        place[1] = value.column;
-        place[2] = value.row;
-        place[3] = value.plan;
-        for k in 0..28usize {
-            place[4 + k] = level_word(&value.levels, k);
-        }
+        place[..4].copy_from_slice(&[1, value.column, value.row, value.plan]);
+        place[4..].copy_from_slice(&level_words(&value.levels));
     }
 
     fn decode(words: &[u64; 32]) -> Option<Tile> {

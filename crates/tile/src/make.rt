@@ -1,6 +1,6 @@
 //! Making a tile, and asking it.
 ghost use Rattle.std.specs.Prelude.{◌≡◌, replicate, Some, MatchResult};
-ghost use Rattle.layout.specs.Lists.{each};
+ghost use Rattle.std.specs.List.{list_all};
 ghost use Rattle.tile.specs.Ranges.{is_level};
 ghost use Rattle.tile.specs.Tiles.{tile_refusal, Made, level_of};
 
@@ -21,14 +21,9 @@ fn is_level(tenths: i16) -> bool
 
 /// Whether all of the numbers are levels.
 fn are_levels(levels: &[i16; 112]) -> bool
-    ensures { result ≡ each is_level levels.now }
+    ensures { result ≡ list_all is_level levels.now }
 {
-    for level in levels {
-        if !is_level(*level) {
-            return false;
-        }
-    }
-    true
+    levels.iter().all(|&level| is_level(level))
 }
 
 impl Tile {
@@ -87,10 +82,6 @@ impl Tile {
     pub fn level(&self, sample: usize) -> Option<i16>
         ensures { result ≡ level_of self.now sample }
     {
-        if sample < Tile::SAMPLES {
-            Some(self.levels[sample])
-        } else {
-            None
-        }
+        self.levels.get(sample).copied()
     }
 }

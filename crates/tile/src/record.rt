@@ -1,6 +1,6 @@
 //! The tile record. Its ranges are in the type: no tile outside them can exist.
 ghost use Rattle.std.specs.Prelude.{◌≡◌, ◌≤◌, true, length};
-ghost use Rattle.layout.specs.Lists.{each};
+ghost use Rattle.std.specs.List.{list_all};
 ghost use Rattle.tile.specs.Ranges.{is_level};
 
 /// A tile of a coverage plan: its column and row, each at most 65,535, the number of the plan that computed it, and the
@@ -14,5 +14,5 @@ pub struct Tile {
     ghost across: { column ≤ 65535 },
     ghost down: { row ≤ 65535 },
     ghost whole: { length levels ≡ 112 },
-    ghost ranged: { each is_level levels ≡ true },
+    ghost ranged: { list_all is_level levels ≡ true },
 }

@@ -1,6 +1,6 @@
 use Rattle.std.proofs.Common.{◌≡◌, ℕ, ◌-◌, ◌≤◌, Bool, true, false, List, get_or, take, drop, sym, ap, ◌∙◌, subst, arith}
 use Rattle.std.proofs.lemmas.Bool.{both_ways}
-use Rattle.layout.specs.Lists.{each}
+use Rattle.std.specs.List.{list_all}
 use Rattle.mast.specs.Names.{is_padding}
 use Rattle.mast.specs.declared.record.Mast.{Mast}
 use Rattle.mast.specs.Masts.{mast_unit, MastShape, bytes_in}
@@ -22,8 +22,8 @@ returns-then-words-ne2 c =
     ]))
 
 -- what the test of the padding says of the unit
-tested : (u bytes : List ℕ) (size : ℕ) (b : Bool) → bytes ≡ bytes_in u → b ≡ each is_padding (take (232 - size) (drop size bytes)) → each is_padding (take (232 - size) (drop size (bytes_in u))) ≡ b
-tested u bytes size b e h = ap (λ (xs : List ℕ). each is_padding (take (232 - size) (drop size xs))) (sym e) ∙ sym h
+tested : (u bytes : List ℕ) (size : ℕ) (b : Bool) → bytes ≡ bytes_in u → b ≡ list_all is_padding (take (232 - size) (drop size bytes)) → list_all is_padding (take (232 - size) (drop size (bytes_in u))) ≡ b
+tested u bytes size b e h = ap (λ (xs : List ℕ). list_all is_padding (take (232 - size) (drop size xs))) (sym e) ∙ sym h
 
 pub returns-then-not-are_padding : goal.returns-then-not-are_padding
 returns-then-not-are_padding c =

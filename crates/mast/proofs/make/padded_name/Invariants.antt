@@ -1,7 +1,0 @@
-use Rattle.std.proofs.Common.{◌≡◌, ℕ, ◌<◌, ◌≤◌, length, get_or}
-use Rattle.mast.proofs.make.padded_name.Given as goal
-
-abbrev pub invariant-loop-i : goal.invariant-loop-i
-invariant-loop-i l =
-    (length l.bytes ≡ 232) × ((k : ℕ) → k < l.i → get_or l.bytes k 0 ≡ get_or l.name k 0)
-    × ((k : ℕ) → l.i ≤ k → get_or l.bytes k 0 ≡ 0)
