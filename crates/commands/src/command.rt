@@ -3,7 +3,9 @@ ghost use Rattle.std.specs.Prelude.{◌≡◌};
 ghost use Rattle.std.specs.Result.{result_ok};
 ghost use Rattle.commands.specs.Commands.{asked, ordered, contents_of};
 
-use crate::verb::OtherWord;
+/// A field that writes none of the words that may stand there.
+#[derive(Clone, Copy, Debug, PartialEq, Eq)]
+pub struct OtherWord;
 
 /// What the unsettled words and the waiting sectors hold after a restart.
 #[derive(Clone, Copy, Debug, PartialEq, Eq)]

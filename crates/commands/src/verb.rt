@@ -3,6 +3,8 @@ ghost use Rattle.std.specs.Prelude.{◌≡◌};
 ghost use Rattle.std.specs.Result.{result_ok};
 ghost use Rattle.commands.specs.Verbs.{spelling, verb_of, width};
 
+use crate::command::OtherWord;
+
 /// What a line begins with.
 #[derive(Clone, Copy, Debug, PartialEq, Eq)]
 pub enum Verb {
@@ -19,10 +21,6 @@ pub enum Verb {
     Tile,
     Restart,
 }
-
-/// A field that writes none of the words that may stand there.
-#[derive(Clone, Copy, Debug, PartialEq, Eq)]
-pub struct OtherWord;
 
 impl Verb {
     /// All verbs.
