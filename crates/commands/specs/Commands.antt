@@ -1,14 +1,15 @@
 -- Which command a line gives: a verb, and as many fields as the verb wants, each of its form. Every other line gives none.
-use Rattle.std.specs.Prelude.{ℕ, cond, List, [], length, ℤ, Some, None, codes, Option, ◌==◌, slice_index_or}
+use Rattle.std.specs.Prelude.{ℕ, cond, List, length, ℤ, Some, None, codes, Option, ◌==◌}
 use Rattle.std.specs.Str.{bytes_eq}
 use Rattle.lines.specs.Pieces.{fields_of}
-use Rattle.lines.specs.Numerals.{word_of, level_of}
+use Rattle.lines.specs.Fields.{field_at, word_at, level_at}
 use Rattle.commands.specs.declared.verb.Verb.{Verb}
 use Rattle.commands.specs.declared.verb.Verb.TheVariants as verb
 use Rattle.commands.specs.declared.command.Contents.{Contents}
 use Rattle.commands.specs.declared.command.Contents.TheVariants.{Old, New}
 use Rattle.commands.specs.declared.command.Draft.{Draft}
 use Rattle.commands.specs.declared.command.Draft.TheVariants as draft
+use Rattle.commands.specs.declared.command.Order.{Order}
 use Rattle.commands.specs.declared.command.Command.{Command}
 use Rattle.commands.specs.declared.command.Command.TheVariants as command
 use Rattle.commands.specs.Verbs.{width, verb_of}
@@ -30,6 +31,10 @@ abbrev pub wanted : Draft → Wanted
 wanted (draft.Tile column row plan level) = tile column row plan level
 wanted (draft.Mast number name) = mast number name.now
 
+-- what an order of the code asks for
+abbrev pub ordered : Order → Asked
+ordered o = set o.record (wanted o.draft)
+
 -- what a command of the code asks for
 abbrev pub asked : Command → Asked
 asked command.Format = format
@@ -43,14 +48,6 @@ asked (command.Clear number) = clear number
 asked (command.Show number) = show number
 asked (command.Set number fields) = set number (wanted fields)
 asked (command.Restart contents nvmActs diskActs) = restart contents nvmActs diskActs
-
--- a field of a line, which is empty where the line has no such field
-abbrev pub field_at : List (List ℕ) → ℕ → List ℕ
-field_at fields k = slice_index_or fields k []
-
--- the number in a field
-abbrev pub word_at : List (List ℕ) → ℕ → Option ℕ
-word_at fields k = word_of (field_at fields k)
 
 -- `old` or `new`
 unfoldable pub contents_of : List ℕ → Option Contents
@@ -69,7 +66,7 @@ mast_in fields = given (word_at fields 1) (λ r. given (word_at fields 2) (λ nu
 abbrev pub tile_in : List (List ℕ) → Option Asked
 tile_in fields =
     given (word_at fields 1) (λ r. given (word_at fields 2) (λ column. given (word_at fields 3) (λ row.
-    given (word_at fields 4) (λ plan. given (level_of (field_at fields 5)) (λ level. Some (set r (tile column row plan level)))))))
+    given (word_at fields 4) (λ plan. given (level_at fields 5) (λ level. Some (set r (tile column row plan level)))))))
 
 -- restart, old or new, the act numbers of the NVM and of the disk
 abbrev pub restart_in : List (List ℕ) → Option Asked

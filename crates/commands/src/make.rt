@@ -13,13 +13,14 @@ use tile::record::Tile;
 pub fn make(draft: Draft<'_>) -> Result<Joined, Refusal>
     ensures { MatchResult result (Fulfils (wanted draft.entry)) (λ why. why_not (wanted draft.entry) ≡ Some why) }
 {
-    match draft {
+    let record = match draft {
         Draft::Tile {
             column,
             row,
             plan,
             level,
-        } => Ok(Joined::Tile(Tile::flat(column, row, plan, level)?)),
-        Draft::Mast { number, name } => Ok(Joined::Mast(Mast::new(number, name)?)),
-    }
+        } => Tile::flat(column, row, plan, level)?.into(),
+        Draft::Mast { number, name } => Mast::new(number, name)?.into(),
+    };
+    Ok(record)
 }

@@ -1,106 +1,131 @@
--- How a word is read digit by digit, and that what was written of a number reads as that number.
-use Rattle.std.proofs.Common.{◌≡◌, ℕ, suc, ◌+◌, ◌-◌, ◌*◌, ◌^◌, ◌<◌, ◌≤◌, true, false, eqb, ◌⊎◌, List, [], ◌∷◌, length, get_or, take, drop, ℤ, pos, negsuc, Some, None, decimal, sym, refl, ap, ◌∙◌, arith, w16, SFits, rules}
-use Rattle.std.proofs.lemmas.List.{drop_more, drop_all, take_rest}
-use Rattle.std.specs.Char.{is_ascii_digit}
-use Rattle.std.specs.Str.{all_ascii_digits}
+-- What `parse` makes of a word and of a level, as the definitions read them, and that what was written of a number reads as that number.
+use Rattle.std.proofs.Common.{◌≡◌, ℕ, ◌^◌, ◌<◌, ◌≤◌, Bool, true, false, cond, eqb, leb, ◌⊎◌, List, [], ◌∷◌, length, get_or, ℤ, pos, neg_ℤ, negsuc, suc, Some, None, Option, Ok, Err, Result, decimal, sym, refl, ap, ◌∙◌, subst, inl, inr, arith, w16, SFits, rules}
+use Rattle.std.specs.Option.{SomeIff}
+use Rattle.std.specs.Result.{OkIff, result_ok}
+use Rattle.std.specs.Str.{IsUtf8, all_ascii_digits}
+use Rattle.std.specs.Str.Parse.{ParsesUnsigned, ParsesSigned}
 use Rattle.std.specs.Fmt.{signed_decimal}
-use Rattle.std.proofs.lemmas.Str.Parse.{IsNumeralModel, numerals_by_fold, tells_all_ascii_digits, not_in_digits}
+use Rattle.std.proofs.lemmas.Str.{IsUtf8-from_ascii}
+use Rattle.std.proofs.lemmas.Str.Ascii.{IsAscii-from_reads, IsAscii-cons}
+use Rattle.std.proofs.lemmas.Str.Parse.{IsNumeralModel, numerals_by_fold, tells_all_ascii_digits, digit_at, not_in_digits, parse_plain, parse_signed_plain, parse_signed_minus}
 use Rattle.std.proofs.lemmas.Fmt.{digits_decimal, digits_value-decimal, decimal_nonempty}
-use Rattle.std.proofs.lemmas.Bool.{cond-true, cond-false, and_from, and_right, lt-ltb, le-ltb, le-leb, ne_eqb, eqb-false, both_ways}
-use Rattle.std.proofs.lemmas.Bool.Decides.{nat_tests}
+use Rattle.std.proofs.lemmas.Bool.{cases_eq, cond-false, and_from, and_parts, lt-ltb, ltb-true, le-leb, leb-true, ne_eqb}
 use Rattle.lines.specs.Numerals.{value_after, word_after, word_of, raised, lowered, level_of, ReadBack}
 
-value_grows : (n : ℕ) (cs : List ℕ) → n ≤ value_after n cs
-value_grows n [] = omega arith
-value_grows n (c ∷ cs) = omega (arith, value_grows (n * 10 + (c - 48)) cs)
+-- the same value by the definition and by the call, where both say when there is one
+some_same : {T E : Type 0} (o : Option T) (r : Result T E) (P : Type 0) (v : T) → SomeIff o P v → OkIff r P v → result_ok r ≡ o
+some_same None (Ok x) P v a b = absurd (a b.0)
+some_same None (Err e) P v a b = refl
+some_same (Some y) (Ok x) P v a b = ap Some (b.1 ∙ sym a.1)
+some_same (Some y) (Err e) P v a b = absurd (b a.0)
 
-pub word_none : (ds : List ℕ) → length ds ≡ 0 → word_of ds ≡ None
-unfolding word_of
-word_none [] h = refl
-word_none (c ∷ cs) h = absurd (omega arith)
+some_of : {T : Type 0} (o : Option T) (P : Type 0) (v : T) → SomeIff o P v → P → o ≡ Some v
+some_of None P v a is = absurd (a is)
+some_of (Some y) P v a is = ap Some a.1
 
-pub word_some : (ds : List ℕ) → 0 < length ds → word_of ds ≡ word_after 0 ds
-unfolding word_of
-word_some [] h = absurd (omega arith)
-word_some (c ∷ cs) h = refl
+none_of : {T : Type 0} (o : Option T) (P : Type 0) (v : T) → SomeIff o P v → (P → ⊥) → o ≡ None
+none_of None P v a isnt = refl
+none_of (Some y) P v a isnt = absurd (isnt a.0)
 
-is_digit : (c : ℕ) → 48 ≤ c → c ≤ 57 → is_ascii_digit c ≡ true
-is_digit c lo hi = grind (arith, nat_tests)
+chosen : {T : Type 0} (b : Bool) (P : Type 0) (v : T) → (b ≡ true → P) → (P → b ≡ true) → SomeIff (cond b (Some v) None) P v
+chosen true P v to from = (to refl, refl)
+chosen false P v to from = λ is. let e : false ≡ true = from is in cc
 
-no_digit : (c : ℕ) → (c < 48) ⊎ (57 < c) → is_ascii_digit c ≡ false
-no_digit c h = grind (arith, nat_tests)
+-- when a word has a number, and which
+abbrev Digits : List ℕ → Type 0
+Digits ds = all_ascii_digits ds ≡ true
 
-pub word_digit : (n c : ℕ) (cs : List ℕ) → 48 ≤ c → c ≤ 57 → word_after n (c ∷ cs) ≡ word_after (n * 10 + (c - 48)) cs
-unfolding word_after
-word_digit n c cs lo hi = rw (is_digit c lo hi)
-
-pub word_other : (n c : ℕ) (cs : List ℕ) → (c < 48) ⊎ (57 < c) → word_after n (c ∷ cs) ≡ None
-unfolding word_after
-word_other n c cs h = rw (no_digit c h)
-
-pub word_over : (n : ℕ) (cs : List ℕ) → 2 ^ 64 ≤ n → word_after n cs ≡ None
-unfolding word_after
-word_over n cs h = cond-false _ _ _ (and_right (all_ascii_digits cs) _ (le-ltb (value_after n cs) (2 ^ 64) (omega (arith, value_grows n cs))))
-
-pub word_end : (n : ℕ) → n < 2 ^ 64 → word_after n [] ≡ Some n
-unfolding word_after
-word_end n h = cond-true _ _ _ (lt-ltb n (2 ^ 64) h)
-
--- what was written is read back
-own : IsNumeralModel (λ ds. all_ascii_digits ds ≡ true) (value_after 0)
+own : IsNumeralModel Digits (value_after 0)
 own = numerals_by_fold _ tells_all_ascii_digits value_after (search rules)
 
-pub words_back : (n : ℕ) → n < 2 ^ 64 → word_of (decimal n) ≡ Some n
-unfolding word_after
+digits_utf8 : (ds : List ℕ) → Digits ds → IsUtf8 ds
+digits_utf8 ds h = IsUtf8-from_ascii ds (IsAscii-from_reads ds (length ds) (omega arith) (λ k lt. omega (arith, digit_at ds k (own.to ds h) lt)))
+
+minus_utf8 : (ds : List ℕ) → Digits ds → IsUtf8 (45 ∷ ds)
+minus_utf8 ds h = IsUtf8-from_ascii (45 ∷ ds) (IsAscii-cons 45 ds (omega arith) (IsAscii-from_reads ds (length ds) (omega arith) (λ k lt. omega (arith, digit_at ds k (own.to ds h) lt))))
+
+word_is : (ds : List ℕ) → SomeIff (word_of ds) (Digits ds × (0 < length ds) × (value_after 0 ds < 2 ^ 64)) (value_after 0 ds)
+unfolding word_of word_after
+word_is [] = λ w. omega (arith, w.1)
+word_is (c ∷ cs) =
+    chosen _ _ _ (λ b. ((and_parts _ _ b).0, omega arith, ltb-true _ _ (and_parts _ _ b).1)) (λ w. and_from _ _ w.0 (lt-ltb _ _ w.2))
+
+-- when a level has a number, and which: the number of the word, or of the word behind the minus
+raise : (o : Option ℕ) (A B : Type 0) (v : ℕ) → SomeIff o (A × B × (v < 2 ^ 64)) v → SomeIff (raised o) (A × B × (v < 2 ^ 15)) (pos v)
+raise None A B v h = λ w. h (w.0, w.1, omega (arith, w.2))
+raise (Some n) A B v h =
+    subst (λ (x : ℕ). SomeIff (cond (leb x 32767) (Some (pos x)) None) (A × B × (v < 2 ^ 15)) (pos v)) (sym h.1)
+    (chosen _ _ _ (λ e. (h.0.0, h.0.1, omega (arith, leb-true _ _ e))) (λ w. le-leb _ _ (omega (arith, w.2))))
+
+lower : (o : Option ℕ) (A B : Type 0) (v : ℕ) → SomeIff o (A × B × (v < 2 ^ 64)) v → SomeIff (lowered o) (A × B × (v ≤ 2 ^ 15)) (neg_ℤ (pos v))
+lower None A B v h = λ w. h (w.0, w.1, omega (arith, w.2))
+lower (Some n) A B v h =
+    subst (λ (x : ℕ). SomeIff (cond (leb x 32768) (Some (neg_ℤ (pos x))) None) (A × B × (v ≤ 2 ^ 15)) (neg_ℤ (pos v))) (sym h.1)
+    (chosen _ _ _ (λ e. (h.0.0, h.0.1, omega (arith, leb-true _ _ e))) (λ w. le-leb _ _ (omega (arith, w.2))))
+
+plain_is : (ds : List ℕ) → (get_or ds 0 0 ≡ 45 → ⊥) → SomeIff (level_of ds) (Digits ds × (0 < length ds) × (value_after 0 ds < 2 ^ 15)) (pos (value_after 0 ds))
+unfolding level_of
+plain_is [] h = λ w. omega (arith, w.1)
+plain_is (c ∷ cs) h = rw (cond-false (eqb c 45) (lowered (word_of cs)) (raised (word_of (c ∷ cs))) (ne_eqb c 45 h)) (raise (word_of (c ∷ cs)) _ _ _ (word_is (c ∷ cs)))
+
+minus_is : (cs : List ℕ) → SomeIff (level_of (45 ∷ cs)) (Digits cs × (0 < length cs) × (value_after 0 cs ≤ 2 ^ 15)) (neg_ℤ (pos (value_after 0 cs)))
+unfolding level_of
+minus_is cs = lower (word_of cs) _ _ _ (word_is cs)
+
+-- what a call of `parse` gave is the word, or the level
+pub word_parsed : {E : Type 0} (ds : List ℕ) (r : Result ℕ E) → ParsesUnsigned 64 10 ds r → (get_or ds 0 0 ≡ 43 → ⊥) → result_ok r ≡ word_of ds
+word_parsed ds r h no_plus = some_same (word_of ds) r _ _ (word_is ds) (parse_plain own 64 ds r h no_plus)
+
+pub level_parsed : {E : Type 0} (ds : List ℕ) (r : Result ℤ E) → ParsesSigned w16 10 ds r → (get_or ds 0 0 ≡ 43 → ⊥) → result_ok r ≡ level_of ds
+level_parsed [] r h no_plus = some_same (level_of []) r _ _ (plain_is [] (λ e. omega (arith, e))) (parse_signed_plain own w16 [] r h no_plus (λ e. omega (arith, e)))
+level_parsed (c ∷ cs) r h no_plus = elim (cases_eq c 45) [
+  | inl e ↦
+      let h' : ParsesSigned w16 10 (45 ∷ cs) r = subst (λ (x : ℕ). ParsesSigned w16 10 (x ∷ cs) r) e h in
+      subst (λ (x : ℕ). result_ok r ≡ level_of (x ∷ cs)) (sym e) (some_same (level_of (45 ∷ cs)) r _ _ (minus_is cs) (parse_signed_minus own w16 (45 ∷ cs) r h' refl))
+  | inr ne ↦ some_same (level_of (c ∷ cs)) r _ _ (plain_is (c ∷ cs) ne) (parse_signed_plain own w16 (c ∷ cs) r h no_plus ne)
+]
+
+-- bytes that are no text, or begin with a plus, are neither
+not_digits : (ds : List ℕ) → (IsUtf8 ds → ⊥) ⊎ (get_or ds 0 0 ≡ 43) → 0 < length ds → Digits ds → ⊥
+not_digits ds h some d = elim h [
+  | inl no_text ↦ no_text (digits_utf8 ds d)
+  | inr plus ↦ omega (arith, plus, digit_at ds 0 (own.to ds d) some)
+]
+
+pub no_word : (ds : List ℕ) → (IsUtf8 ds → ⊥) ⊎ (get_or ds 0 0 ≡ 43) → word_of ds ≡ None
+no_word ds h = none_of (word_of ds) _ _ (word_is ds) (λ w. not_digits ds h w.1 w.0)
+
+pub no_level : (ds : List ℕ) → (IsUtf8 ds → ⊥) ⊎ (get_or ds 0 0 ≡ 43) → level_of ds ≡ None
+no_level [] h = none_of (level_of []) _ _ (plain_is [] (λ e. omega (arith, e))) (λ w. omega (arith, w.1))
+no_level (c ∷ cs) h = elim (cases_eq c 45) [
+  | inl e ↦
+      subst (λ (x : ℕ). level_of (x ∷ cs) ≡ None) (sym e) (none_of (level_of (45 ∷ cs)) _ _ (minus_is cs) (λ w. elim h [
+        | inl no_text ↦ no_text (subst (λ (x : ℕ). IsUtf8 (x ∷ cs)) (sym e) (minus_utf8 cs w.0))
+        | inr plus ↦ omega (arith, plus, e)
+      ]))
+  | inr ne ↦ none_of (level_of (c ∷ cs)) _ _ (plain_is (c ∷ cs) ne) (λ w. not_digits (c ∷ cs) h w.1 w.0)
+]
+
+-- what was written is read back
+words_back : (n : ℕ) → n < 2 ^ 64 → word_of (decimal n) ≡ Some n
 words_back n h =
     let v : value_after 0 (decimal n) ≡ n = digits_value-decimal own n h in
-    word_some (decimal n) (decimal_nonempty n h)
-    ∙ (cond-true _ _ _ (and_from _ _ (digits_decimal own n h) (lt-ltb _ _ (omega arith))) ∙ ap Some v)
-
-pub level_above : (ds : List ℕ) → (get_or ds 0 0 ≡ 45 → ⊥) → level_of ds ≡ raised (word_of ds)
-unfolding level_of word_of
-level_above [] h = refl
-level_above (c ∷ cs) h = cond-false _ _ _ (ne_eqb c 45 h)
-
-pub level_below : (cs : List ℕ) → level_of (45 ∷ cs) ≡ lowered (word_of cs)
-unfolding level_of
-level_below cs = refl
+    some_of (word_of (decimal n)) _ _ (word_is (decimal n)) (digits_decimal own n h, decimal_nonempty n h, omega arith) ∙ ap Some v
 
 levels_back : (z : ℤ) → SFits w16 z → level_of (signed_decimal z) ≡ Some z
 levels_back (pos n) f =
     let small : n < 2 ^ 15 = f.sfits in
     let n64 : n < 2 ^ 64 = omega arith in
-    level_above (decimal n) (not_in_digits own (decimal n) 45 (digits_decimal own n n64) (λ h. omega arith) 0 (decimal_nonempty n n64))
-    ∙ (ap raised (words_back n n64) ∙ cond-true _ _ _ (le-leb n 32767 (omega arith)))
+    let v : value_after 0 (decimal n) ≡ n = digits_value-decimal own n n64 in
+    let digits : Digits (decimal n) = digits_decimal own n n64 in
+    let plain = not_in_digits own (decimal n) 45 digits (λ h. omega arith) 0 (decimal_nonempty n n64) in
+    some_of (level_of (decimal n)) _ _ (plain_is (decimal n) plain) (digits, decimal_nonempty n n64, omega arith) ∙ ap (λ (x : ℕ). Some (pos x)) v
 levels_back (negsuc n) f =
     let small : n < 2 ^ 15 = f.sfits in
-    level_below (decimal (suc n)) ∙ (ap lowered (words_back (suc n) (omega arith)) ∙ cond-true _ _ _ (le-leb (suc n) 32768 (omega arith)))
+    let n64 : suc n < 2 ^ 64 = omega arith in
+    let v : value_after 0 (decimal (suc n)) ≡ suc n = digits_value-decimal own (suc n) n64 in
+    some_of (level_of (45 ∷ decimal (suc n))) _ _ (minus_is (decimal (suc n))) (digits_decimal own (suc n) n64, decimal_nonempty (suc n) n64, omega arith)
+    ∙ ap (λ (x : ℕ). Some (neg_ℤ (pos x))) v
 
 pub read_back : ReadBack
 read_back = record { words = words_back; levels = levels_back }
-
--- the same at the place `i` of a word, as a loop over it goes
-module _ (w : List ℕ) (i n : ℕ) (lt : i < length w) where
-  here : word_after n (drop i w) ≡ word_after n (get_or w i 0 ∷ drop (i + 1) w)
-  here = ap (word_after n) (drop_more w i 0 lt)
-
-  pub at_digit : 48 ≤ get_or w i 0 → get_or w i 0 ≤ 57 → word_after n (drop i w) ≡ word_after (n * 10 + (get_or w i 0 - 48)) (drop (i + 1) w)
-  at_digit lo hi = here ∙ word_digit n (get_or w i 0) (drop (i + 1) w) lo hi
-
-  pub at_over : 48 ≤ get_or w i 0 → get_or w i 0 ≤ 57 → 2 ^ 64 ≤ n * 10 + (get_or w i 0 - 48) → word_after n (drop i w) ≡ None
-  at_over lo hi over = at_digit lo hi ∙ word_over (n * 10 + (get_or w i 0 - 48)) (drop (i + 1) w) over
-
-  pub at_other : (get_or w i 0 < 48) ⊎ (57 < get_or w i 0) → word_after n (drop i w) ≡ None
-  at_other h = here ∙ word_other n (get_or w i 0) (drop (i + 1) w) h
-
-pub at_end : (w : List ℕ) (i n : ℕ) → length w ≤ i → n < 2 ^ 64 → word_after n (drop i w) ≡ Some n
-at_end w i n h small = ap (word_after n) (drop_all i w h) ∙ word_end n small
-
--- the same of a level whose first byte was looked at
-pub level_minus : (ds : List ℕ) → true ≡ eqb (get_or ds 0 0) 45 → level_of ds ≡ lowered (word_of (take (length ds - 1) (drop 1 ds)))
-unfolding level_of
-level_minus [] h = absurd (both_ways true h refl)
-level_minus (c ∷ cs) h = cond-true _ _ _ (sym h) ∙ ap (λ (t : List ℕ). lowered (word_of t)) (sym (take_rest (c ∷ cs) 1))
-
-pub level_plain : (ds : List ℕ) → false ≡ eqb (get_or ds 0 0) 45 → level_of ds ≡ raised (word_of ds)
-level_plain ds h = level_above ds (eqb-false (get_or ds 0 0) 45 (sym h))

@@ -1,3 +1,4 @@
 pub mod Pieces
 pub mod Splits
 pub mod Numerals
+pub mod Fields

@@ -1,28 +1,18 @@
 //! Lines, fields and numbers at their edges.
 use crate::numeral::{level, number};
-use crate::split::{field, first_line, has_fields};
+use crate::split::{Split, field, first_line, has_fields};
 
-fn line_is(text: &[u8], line: &[u8], rest: &[u8]) -> bool {
-    match first_line(text) {
-        Some(split) => split.line == line && split.rest == rest,
-        None => false,
-    }
-}
-
-fn field_is(line: &[u8], k: usize, expected: &[u8]) -> bool {
-    match field(line, k) {
-        Some(found) => found == expected,
-        None => false,
-    }
+fn parts<'a>(line: &'a [u8], rest: &'a [u8]) -> Option<Split<'a>> {
+    Some(Split { line, rest })
 }
 
 #[test]
 fn lines_end_at_newlines_alone(rt: HostRuntime) {
-    assert!(rt; first_line(b"").is_none());
-    assert!(rt; line_is(b"a\tb\r\nc", b"a\tb\r", b"c"));
-    assert!(rt; line_is(b"c", b"c", b""));
-    assert!(rt; line_is(b"c\n", b"c", b""));
-    assert!(rt; line_is(b"\n\n", b"", b"\n"));
+    assert_eq!(rt; first_line(b""), None);
+    assert_eq!(rt; first_line(b"a\tb\r\nc"), parts(b"a\tb\r", b"c"));
+    assert_eq!(rt; first_line(b"c"), parts(b"c", b""));
+    assert_eq!(rt; first_line(b"c\n"), parts(b"c", b""));
+    assert_eq!(rt; first_line(b"\n\n"), parts(b"", b"\n"));
 }
 
 #[test]
@@ -31,10 +21,10 @@ fn every_tab_parts_fields(rt: HostRuntime) {
     assert!(rt; !has_fields(b"", 0));
     assert!(rt; has_fields(b"\t", 2));
     assert!(rt; has_fields(b"a\t\tb c", 3));
-    assert!(rt; field_is(b"a\t\tb c", 0, b"a"));
-    assert!(rt; field_is(b"a\t\tb c", 1, b""));
-    assert!(rt; field_is(b"a\t\tb c", 2, b"b c"));
-    assert!(rt; field(b"a\t\tb c", 3).is_none());
+    assert_eq!(rt; field(b"a\t\tb c", 0), Some(b"a".as_slice()));
+    assert_eq!(rt; field(b"a\t\tb c", 1), Some(b"".as_slice()));
+    assert_eq!(rt; field(b"a\t\tb c", 2), Some(b"b c".as_slice()));
+    assert_eq!(rt; field(b"a\t\tb c", 3), None);
 }
 
 #[test]

@@ -1,29 +1,24 @@
 -- Which order a line gives: a verb, and as many fields as the verb wants, each of its form. Every other line gives none.
-use Rattle.std.specs.Prelude.{ℕ, Bool, cond, ◌&&◌, List, [], length, ℤ, Some, None, codes, Option, ◌==◌, slice_index_or}
+use Rattle.std.specs.Prelude.{ℕ, Bool, cond, ◌&&◌, List, length, ℤ, Some, None, codes, Option, ◌==◌}
 use Rattle.std.specs.Str.{bytes_eq}
-use Rattle.lines.specs.Numerals.{word_of, level_of}
-use Rattle.workbench.specs.declared.order.Order.{Order}
-use Rattle.workbench.specs.declared.order.Order.TheVariants.{Tile, Mast}
+use Rattle.lines.specs.Fields.{field_at, word_at, level_at}
+use Rattle.commands.specs.declared.command.Order.{Order}
+use Rattle.commands.specs.Commands.{Wanted, wanted}
+use Rattle.commands.specs.Commands as commands
 
 -- what is asked for: a tile or a mast, and the number of its record
 pub data Asked : Type 0 where
   tile : (number column row plan : ℕ) (level : ℤ) → Asked
   mast : (number mast : ℕ) (name : List ℕ) → Asked
 
+-- a wanted record, asked for under a number
+abbrev pub asked_of : ℕ → Wanted → Asked
+asked_of r (commands.tile column row plan level) = tile r column row plan level
+asked_of r (commands.mast number name) = mast r number name
+
 -- what an order of the code asks for, wherever the bytes of a name stand
 abbrev pub asked : Order → Asked
-asked (Tile record' column row plan level) = tile record' column row plan level
-asked (Mast record' number name) = mast record' number name.now
-
--- a field of a line, as it stands or as a number; a field that is not there is empty
-abbrev pub field_at : List (List ℕ) → ℕ → List ℕ
-field_at fields k = slice_index_or fields k []
-
-abbrev pub word_at : List (List ℕ) → ℕ → Option ℕ
-word_at fields k = word_of (field_at fields k)
-
-abbrev pub level_at : List (List ℕ) → ℕ → Option ℤ
-level_at fields k = level_of (field_at fields k)
+asked o = asked_of o.record (wanted o.draft)
 
 -- the line has so many fields, and the first is the verb
 abbrev pub is_form : List ℕ → ℕ → List (List ℕ) → Bool

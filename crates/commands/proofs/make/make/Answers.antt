@@ -13,4 +13,5 @@ returns-in_ok-flat-in-Tile c =
     let fits : SFits w16 t.level = search rules in
     let made : Made t.column t.row t.plan (replicate 112 t.level) c.in_ok-flat-in-Tile.field-0 =
     subst (λ (z : ℤ). Made t.column t.row t.plan (replicate 112 z) c.in_ok-flat-in-Tile.field-0) (to_z-of_z w16 t.level fits) c.in_ok-flat-in-Tile.ensures in
-    subst (λ (d : Draft). Fulfils (wanted d) (Tile c.in_ok-flat-in-Tile.field-0)) (sym t.is) made
+    let whole = subst (λ (d : Draft). Fulfils (wanted d) (Tile c.in_ok-flat-in-Tile.field-0)) (sym t.is) made in
+    subst (Fulfils (wanted c.args.draft)) (sym c.into-record.ensures) whole

@@ -1,35 +1,14 @@
-use Rattle.std.proofs.Common.{◌+◌, ◌<◌, [], length, sym, arith}
-use Rattle.std.proofs.lemmas.List.{nil_from_length}
-use Rattle.std.proofs.lemmas.Bool.{eqb-true, eqb-false}
-use Rattle.lines.proofs.Cutting.{lined}
-use Rattle.lines.proofs.Found.{cut_found, line_unended, rest_found, rest_unended, behind_shorter}
+use Rattle.std.proofs.Common.{◌≡◌, None, Some, rules, tests}
+use Rattle.std.proofs.lemmas.Iterator.{IsFirst-from_position, YieldsList-from_slice}
+use Rattle.lines.proofs.Found.{line_found, line_whole}
 use Rattle.lines.proofs.split.first_line.Goals as goal
 
-pub returns-then-is_empty : goal.returns-then-is_empty
-returns-then-is_empty c =
-    record {
-      lines = nil_from_length c.args.text.now (eqb-true _ _ (sym c.if-is_empty.ensures));
-      rest = tt;
-      shorter = tt;
-      law = lined c.args.text.now;
-    }
+pub returns-in-Some-clause-lines : goal.returns-in-Some-clause-lines
+returns-in-Some-clause-lines c =
+    line_found c.args.text.now c.in-Some.end
+    (IsFirst-from_position _ _ (Some c.in-Some.end) (λ x. x ≡ 10) (λ x. x ≡ 10 → ⊥) c.in-Some.ensures.ran (YieldsList-from_slice _ c.iter.ensures.rest) (λ x q k. search (rules, tests)) (λ x q k. search (rules, tests)))
 
-pub returns-then-end-text : goal.returns-then-end-text
-returns-then-end-text c =
-    let some : 0 < length c.args.text.now = omega (arith, eqb-false _ _ (sym c.if-is_empty.ensures)) in
-    record {
-      lines = line_unended c.args.text.now c.find_mark-end.result some c.if-end-text.true c.find_mark-end.ensures.before;
-      rest = rest_unended c.args.text.now c.find_mark-end.result c.if-end-text.true;
-      shorter = behind_shorter c.args.text.now c.find_mark-end.result some (omega arith);
-      law = lined c.args.text.now;
-    }
-
-pub returns : goal.returns
-returns c =
-    let lt : c.find_mark-end.result < length c.args.text.now = omega arith in
-    record {
-      lines = cut_found 10 [] c.args.text.now c.find_mark-end.result lt c.find_mark-end.ensures.before (c.find_mark-end.ensures.found lt);
-      rest = rest_found c.args.text.now c.find_mark-end.result lt;
-      shorter = behind_shorter c.args.text.now (c.find_mark-end.result + 1) (omega arith) (omega arith);
-      law = lined c.args.text.now;
-    }
+pub returns-in-None-clause-lines : goal.returns-in-None-clause-lines
+returns-in-None-clause-lines c =
+    line_whole c.args.text.now (search rules)
+    (IsFirst-from_position _ _ None (λ x. x ≡ 10) (λ x. x ≡ 10 → ⊥) c.in-None.ensures.ran (YieldsList-from_slice _ c.iter.ensures.rest) (λ x q k. search (rules, tests)) (λ x q k. search (rules, tests)))

@@ -3,7 +3,7 @@ use Rattle.std.specs.Str.{bytes_eq}
 use Rattle.std.proofs.lemmas.Slice.Eq.{slice_eq-Decides, bytes_eq-Decides}
 use Rattle.std.proofs.lemmas.Bool.Decides.{same_from_decides, Decides-eqb}
 use Rattle.lines.specs.Pieces.{fields_of}
-use Rattle.workbench.specs.Orders.{field_at}
+use Rattle.lines.specs.Fields.{field_at}
 use Rattle.workbench.proofs.read.is_form.Goals as goal
 
 pub returns-then-has_fields : goal.returns-then-has_fields
