@@ -8,21 +8,19 @@ ghost use Rattle.printing.specs.declared.detail.Detail.TheVariants.{Nothing};
 ghost use Rattle.printing.specs.Texts.{line_text};
 ghost use Rattle.session.specs.Lines.{most_bytes, LineWritten, Progress, Script, Runs};
 
-use crate::said::letter;
+use crate::said::standing;
 use crate::session::Session;
 use device::disk::Disk;
 use device::nvm::Nvm;
 use lines::split::first_line;
-use printing::detail::Detail;
-use printing::line::write_line;
+use printing::complaint::Complaint;
+use printing::line::Line;
+use printing::standing::Standing;
 use refusal::reason::Refusal;
 use std::alloc::Global;
 
 /// The most bytes of a script.
 pub const MOST_BYTES: usize = 65536;
-
-/// The number that a longer script prints.
-const TOO_LONG: u32 = 91;
 
 /// Runs one line, and writes its line of the output behind what is there.
 fn run_line<N: Nvm, D: Disk>(
@@ -38,11 +36,13 @@ fn run_line<N: Nvm, D: Disk>(
         (seen (N.Nvm.meaning session.new.store.engine.nvm) (D.Disk.meaning session.new.store.engine.disk) session.new.store.engine.state (list_of session.new.store.engine.settings)) session.new.held) (λ e. e ≡ NoMemory) }
 {
     let said = session.line(heap, line)?;
-    let state = letter(&session.store);
-    match write_line(out, number, state, said.number, &said.detail) {
-        Ok(()) => Ok(()),
-        Err(_) => Err(Refusal::NoMemory),
-    }
+    let standing = standing(&session.store);
+    let line = Line {
+        number,
+        standing,
+        said,
+    };
+    line.write_to(out).map_err(|_| Refusal::NoMemory)
 }
 
 /// Runs the lines of a script, one after another.
@@ -73,10 +73,13 @@ fn refuse(heap: Global) -> Result<Vec<u8>, Refusal>
     ensures { MatchResult result (λ out. out.items ≡ line_text 0 117 91 Nothing) (λ e. e ≡ NoMemory) }
 {
     let mut out = Vec::new(heap);
-    match write_line(&mut out, 0, 'u', TOO_LONG, &Detail::Nothing) {
-        Ok(()) => Ok(out),
-        Err(_) => Err(Refusal::NoMemory),
-    }
+    let line = Line {
+        number: 0,
+        standing: Standing::Unmounted,
+        said: Err(Complaint::TooLong),
+    };
+    line.write_to(&mut out).map_err(|_| Refusal::NoMemory)?;
+    Ok(out)
 }
 
 /// Runs a script in a session without a ticket and gives what it prints: a line for each of its lines. The end of the script gives a

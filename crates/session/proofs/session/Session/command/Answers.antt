@@ -12,7 +12,7 @@ use Rattle.session.proofs.session.Session.command.Goals as goal
 pub returns-then-lacks_ticket : goal.returns-then-lacks_ticket
 returns-then-lacks_ticket g c =
     let lacks = no_ticket (needs_ticket (asked c.args.command)) c.args.self.now.held (sym c.lacks_ticket.ensures ∙ c.if-lacks_ticket.true) in
-    said_nothing (seen (g.N.Nvm.meaning c.args.self.now.store.engine.nvm) (g.D.Disk.meaning c.args.self.now.store.engine.disk) c.args.self.now.store.engine.state (list_of c.args.self.now.store.engine.settings)) c.args.self.now.held (Some (asked c.args.command)) _ 23 _ (c.only.ensures.0 ∙ c.number.ensures) c.only.ensures.1 (spec.ticketless lacks.0 lacks.1)
+    said_nothing (seen (g.N.Nvm.meaning c.args.self.now.store.engine.nvm) (g.D.Disk.meaning c.args.self.now.store.engine.disk) c.args.self.now.store.engine.state (list_of c.args.self.now.store.engine.settings)) c.args.self.now.held (Some (asked c.args.command)) _ 23 _ refl refl (spec.ticketless lacks.0 lacks.1)
 
 pub returns-in-Format : goal.returns-in-Format
 returns-in-Format g c =

@@ -1,5 +1,5 @@
 use Rattle.commands.specs.Commands.{command_of}
-use Rattle.std.proofs.Common.{Some, sym}
+use Rattle.std.proofs.Common.{Some, sym, refl}
 use Rattle.settings.specs.Puts.{list_of}
 use Rattle.calling.specs.Seen.{seen}
 use Rattle.commands.specs.Commands.{asked}
@@ -8,7 +8,7 @@ use Rattle.session.proofs.session.Session.line.Goals as goal
 
 pub returns-in-None : goal.returns-in-None
 returns-in-None g c =
-    another_form (seen (g.N.Nvm.meaning c.args.self.now.store.engine.nvm) (g.D.Disk.meaning c.args.self.now.store.engine.disk) c.args.self.now.store.engine.state (list_of c.args.self.now.store.engine.settings)) c.args.self.now.held (command_of c.args.line.now) _ _ c.in-None.ensures c.only.ensures.0 c.only.ensures.1
+    another_form (seen (g.N.Nvm.meaning c.args.self.now.store.engine.nvm) (g.D.Disk.meaning c.args.self.now.store.engine.disk) c.args.self.now.store.engine.state (list_of c.args.self.now.store.engine.settings)) c.args.self.now.held (command_of c.args.line.now) _ _ c.in-None.ensures refl refl
 
 pub returns-in-Some : goal.returns-in-Some
 returns-in-Some g c =

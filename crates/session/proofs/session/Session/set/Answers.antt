@@ -1,4 +1,4 @@
-use Rattle.std.proofs.Common.{Some, ◌∙◌}
+use Rattle.std.proofs.Common.{Some, refl}
 use Rattle.settings.specs.Puts.{list_of}
 use Rattle.calling.specs.Seen.{seen}
 use Rattle.commands.specs.Commands.{wanted, set}
@@ -12,4 +12,4 @@ returns-in-Ok g c =
 
 pub returns-in-Err : goal.returns-in-Err
 returns-in-Err g c held =
-    said_nothing (seen (g.N.Nvm.meaning c.args.self.now.store.engine.nvm) (g.D.Disk.meaning c.args.self.now.store.engine.disk) c.args.self.now.store.engine.state (list_of c.args.self.now.store.engine.settings)) c.args.self.now.held (Some (set c.args.record (wanted c.args.draft))) _ _ _ (c.only.ensures.0 ∙ c.number.ensures) c.only.ensures.1 (spec.unmade held c.in-Err.ensures)
+    said_nothing (seen (g.N.Nvm.meaning c.args.self.now.store.engine.nvm) (g.D.Disk.meaning c.args.self.now.store.engine.disk) c.args.self.now.store.engine.state (list_of c.args.self.now.store.engine.settings)) c.args.self.now.held (Some (set c.args.record (wanted c.args.draft))) _ _ _ refl refl (spec.unmade held c.in-Err.ensures)
