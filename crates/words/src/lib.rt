@@ -68,14 +68,11 @@ fn show_mast<W: fmt::Write>(
     f: &mut fmt::Formatter<W>,
 ) -> fmt::Result {
     let number = mast.number();
-    write!(f, "mast {number} \"")?;
-    for byte in mast.name() {
-        f.write_char(char::from(*byte))?;
-    }
-    let [kind, first, second, name, ..] = unit;
+    let name = mast.text();
+    let [kind, first, second, start, ..] = unit;
     write!(
         f,
-        "\", written as a unit of 256 bytes (words {kind}, {first}, {second}, {name:#x}, ..)"
+        "mast {number} \"{name}\", written as a unit of 256 bytes (words {kind}, {first}, {second}, {start:#x}, ..)"
     )
 }
 

@@ -17,11 +17,8 @@ fn show_record<W: fmt::Write>(value: &Joined, f: &mut fmt::Formatter<W>) -> fmt:
         }
         Joined::Mast(mast) => {
             let number = mast.number();
-            write!(f, "mast {number} \"")?;
-            for byte in mast.name() {
-                f.write_char(char::from(*byte))?;
-            }
-            f.write_char('"')
+            let name = mast.text();
+            write!(f, "mast {number} \"{name}\"")
         }
     }
 }
@@ -40,10 +37,8 @@ fn show_numbers<W: fmt::Write>(
     count: usize,
     f: &mut fmt::Formatter<W>,
 ) -> fmt::Result {
-    for (i, number) in words.iter().enumerate() {
-        if i < count {
-            write!(f, " {number}")?;
-        }
+    for number in words.iter().take(count) {
+        write!(f, " {number}")?;
     }
     Ok(())
 }
