@@ -4,8 +4,7 @@ ghost use Rattle.refusal.specs.declared.reason.Refusal.TheVariants.{NoMemory};
 ghost use Rattle.joined.specs.declared.record.Joined.{Joined as Value};
 ghost use Rattle.calls.specs.declared.call.Call.TheVariants.{Begin, Commit, Abandon};
 ghost use Rattle.calls.specs.declared.answer.Answer.{Answer as Reply};
-ghost use Rattle.settings.specs.Puts.{list_of};
-ghost use Rattle.calling.specs.Seen.{seen};
+ghost use Rattle.session.specs.Machines.{machine_of};
 ghost use Rattle.commands.specs.Commands.{Asked, begin as beginning, commit as committing, abandon as abandoning, set as setting, restart as restarting, wanted, asked, command_of};
 ghost use Rattle.printing.specs.Said.{number_shown, detail_shown};
 ghost use Rattle.session.specs.Said.{needs_ticket, held_after};
@@ -33,9 +32,9 @@ impl<N: Nvm, D: Disk> Session<N, D> {
     /// A call that leaves the ticket as it is.
     fn call(&mut self, heap: Global, call: Call<Joined>) -> Result<Said, Refusal>
         ensures { MatchResult result (λ s. (c : Asked) → ((a : Reply Value) → held_after self.old.held c a ≡ self.old.held) → CallSaid
-            (seen (N.Nvm.meaning self.old.store.engine.nvm) (D.Disk.meaning self.old.store.engine.disk) self.old.store.engine.state (list_of self.old.store.engine.settings)) self.old.held
+            (machine_of N.Nvm.meaning D.Disk.meaning self.old) self.old.held
             c call (number_shown s) (detail_shown s)
-            (seen (N.Nvm.meaning self.new.store.engine.nvm) (D.Disk.meaning self.new.store.engine.disk) self.new.store.engine.state (list_of self.new.store.engine.settings)) self.new.held) (λ e. e ≡ NoMemory) }
+            (machine_of N.Nvm.meaning D.Disk.meaning self.new) self.new.held) (λ e. e ≡ NoMemory) }
     {
         let answer = self.ask(heap, Request::Call(call))?;
         Ok(said_of(answer))
@@ -44,9 +43,9 @@ impl<N: Nvm, D: Disk> Session<N, D> {
     /// A begin: accepted, it hands out a ticket.
     fn begin(&mut self, heap: Global) -> Result<Said, Refusal>
         ensures { MatchResult result (λ s. CallSaid
-            (seen (N.Nvm.meaning self.old.store.engine.nvm) (D.Disk.meaning self.old.store.engine.disk) self.old.store.engine.state (list_of self.old.store.engine.settings)) self.old.held
+            (machine_of N.Nvm.meaning D.Disk.meaning self.old) self.old.held
             beginning Begin (number_shown s) (detail_shown s)
-            (seen (N.Nvm.meaning self.new.store.engine.nvm) (D.Disk.meaning self.new.store.engine.disk) self.new.store.engine.state (list_of self.new.store.engine.settings)) self.new.held) (λ e. e ≡ NoMemory) }
+            (machine_of N.Nvm.meaning D.Disk.meaning self.new) self.new.held) (λ e. e ≡ NoMemory) }
     {
         let answer = self.ask(heap, Request::Call(Call::Begin))?;
         if is_accepted(&answer) {
@@ -58,9 +57,9 @@ impl<N: Nvm, D: Disk> Session<N, D> {
     /// A commit: it spends the ticket, unless its refusal hands it back.
     fn commit(&mut self, heap: Global) -> Result<Said, Refusal>
         ensures { MatchResult result (λ s. CallSaid
-            (seen (N.Nvm.meaning self.old.store.engine.nvm) (D.Disk.meaning self.old.store.engine.disk) self.old.store.engine.state (list_of self.old.store.engine.settings)) self.old.held
+            (machine_of N.Nvm.meaning D.Disk.meaning self.old) self.old.held
             committing Commit (number_shown s) (detail_shown s)
-            (seen (N.Nvm.meaning self.new.store.engine.nvm) (D.Disk.meaning self.new.store.engine.disk) self.new.store.engine.state (list_of self.new.store.engine.settings)) self.new.held) (λ e. e ≡ NoMemory) }
+            (machine_of N.Nvm.meaning D.Disk.meaning self.new) self.new.held) (λ e. e ≡ NoMemory) }
     {
         let answer = self.ask(heap, Request::Call(Call::Commit))?;
         self.held = keeps_ticket(&answer);
@@ -70,9 +69,9 @@ impl<N: Nvm, D: Disk> Session<N, D> {
     /// An abandon: it takes the ticket whatever it answers.
     fn abandon(&mut self, heap: Global) -> Result<Said, Refusal>
         ensures { MatchResult result (λ s. CallSaid
-            (seen (N.Nvm.meaning self.old.store.engine.nvm) (D.Disk.meaning self.old.store.engine.disk) self.old.store.engine.state (list_of self.old.store.engine.settings)) self.old.held
+            (machine_of N.Nvm.meaning D.Disk.meaning self.old) self.old.held
             abandoning Abandon (number_shown s) (detail_shown s)
-            (seen (N.Nvm.meaning self.new.store.engine.nvm) (D.Disk.meaning self.new.store.engine.disk) self.new.store.engine.state (list_of self.new.store.engine.settings)) self.new.held) (λ e. e ≡ NoMemory) }
+            (machine_of N.Nvm.meaning D.Disk.meaning self.new) self.new.held) (λ e. e ≡ NoMemory) }
     {
         let answer = self.ask(heap, Request::Call(Call::Abandon))?;
         self.held = false;
@@ -81,7 +80,7 @@ impl<N: Nvm, D: Disk> Session<N, D> {
 
     /// Gives a held ticket up.
     pub fn give_up(&mut self, heap: Global) -> Result<(), Refusal>
-        ensures { MatchResult result (λ _. GivenUp (seen (N.Nvm.meaning self.old.store.engine.nvm) (D.Disk.meaning self.old.store.engine.disk) self.old.store.engine.state (list_of self.old.store.engine.settings)) self.old.held (seen (N.Nvm.meaning self.new.store.engine.nvm) (D.Disk.meaning self.new.store.engine.disk) self.new.store.engine.state (list_of self.new.store.engine.settings)) × (self.new.held ≡ false)) (λ e. e ≡ NoMemory) }
+        ensures { MatchResult result (λ _. GivenUp (machine_of N.Nvm.meaning D.Disk.meaning self.old) self.old.held (machine_of N.Nvm.meaning D.Disk.meaning self.new) × (self.new.held ≡ false)) (λ e. e ≡ NoMemory) }
     {
         if self.held {
             let _ = self.abandon(heap)?;
@@ -92,9 +91,9 @@ impl<N: Nvm, D: Disk> Session<N, D> {
     /// A record that is made and set, or that cannot be made.
     fn set(&mut self, heap: Global, record: u64, draft: Draft<'_>) -> Result<Said, Refusal>
         ensures { MatchResult result (λ s. self.old.held ≡ true → LineSaid
-            (seen (N.Nvm.meaning self.old.store.engine.nvm) (D.Disk.meaning self.old.store.engine.disk) self.old.store.engine.state (list_of self.old.store.engine.settings)) self.old.held
+            (machine_of N.Nvm.meaning D.Disk.meaning self.old) self.old.held
             (Some (setting «record» (wanted draft.entry))) (number_shown s) (detail_shown s)
-            (seen (N.Nvm.meaning self.new.store.engine.nvm) (D.Disk.meaning self.new.store.engine.disk) self.new.store.engine.state (list_of self.new.store.engine.settings)) self.new.held) (λ e. e ≡ NoMemory) }
+            (machine_of N.Nvm.meaning D.Disk.meaning self.new) self.new.held) (λ e. e ≡ NoMemory) }
     {
         match make(draft) {
             Ok(value) => self.call(heap, Call::Set(record, value)),
@@ -111,9 +110,9 @@ impl<N: Nvm, D: Disk> Session<N, D> {
         disk_acts: u64,
     ) -> Result<Said, Refusal>
         ensures { MatchResult result (λ s. LineSaid
-            (seen (N.Nvm.meaning self.old.store.engine.nvm) (D.Disk.meaning self.old.store.engine.disk) self.old.store.engine.state (list_of self.old.store.engine.settings)) self.old.held
+            (machine_of N.Nvm.meaning D.Disk.meaning self.old) self.old.held
             (Some (restarting contents nvm_acts disk_acts)) (number_shown s) (detail_shown s)
-            (seen (N.Nvm.meaning self.new.store.engine.nvm) (D.Disk.meaning self.new.store.engine.disk) self.new.store.engine.state (list_of self.new.store.engine.settings)) self.new.held) (λ e. e ≡ NoMemory) }
+            (machine_of N.Nvm.meaning D.Disk.meaning self.new) self.new.held) (λ e. e ≡ NoMemory) }
     {
         self.give_up(heap)?;
         let back = Return {
@@ -136,9 +135,9 @@ impl<N: Nvm, D: Disk> Session<N, D> {
     /// What a command says, and does.
     fn command(&mut self, heap: Global, command: Command<'_>) -> Result<Said, Refusal>
         ensures { MatchResult result (λ s. LineSaid
-            (seen (N.Nvm.meaning self.old.store.engine.nvm) (D.Disk.meaning self.old.store.engine.disk) self.old.store.engine.state (list_of self.old.store.engine.settings)) self.old.held
+            (machine_of N.Nvm.meaning D.Disk.meaning self.old) self.old.held
             (Some (asked command.entry)) (number_shown s) (detail_shown s)
-            (seen (N.Nvm.meaning self.new.store.engine.nvm) (D.Disk.meaning self.new.store.engine.disk) self.new.store.engine.state (list_of self.new.store.engine.settings)) self.new.held) (λ e. e ≡ NoMemory) }
+            (machine_of N.Nvm.meaning D.Disk.meaning self.new) self.new.held) (λ e. e ≡ NoMemory) }
     {
         if self.lacks_ticket(command) {
             return Ok(Err(Complaint::Refused(Refusal::NotOpen)));
@@ -165,9 +164,9 @@ impl<N: Nvm, D: Disk> Session<N, D> {
     /// What a line says, and does.
     pub fn line(&mut self, heap: Global, line: &[u8]) -> Result<Said, Refusal>
         ensures { MatchResult result (λ s. LineSaid
-            (seen (N.Nvm.meaning self.old.store.engine.nvm) (D.Disk.meaning self.old.store.engine.disk) self.old.store.engine.state (list_of self.old.store.engine.settings)) self.old.held
+            (machine_of N.Nvm.meaning D.Disk.meaning self.old) self.old.held
             (command_of line.now) (number_shown s) (detail_shown s)
-            (seen (N.Nvm.meaning self.new.store.engine.nvm) (D.Disk.meaning self.new.store.engine.disk) self.new.store.engine.state (list_of self.new.store.engine.settings)) self.new.held) (λ e. e ≡ NoMemory) }
+            (machine_of N.Nvm.meaning D.Disk.meaning self.new) self.new.held) (λ e. e ≡ NoMemory) }
     {
         match parse(line) {
             Some(command) => self.command(heap, command),

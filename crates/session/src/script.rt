@@ -1,8 +1,7 @@
 //! A whole script.
 ghost use Rattle.std.specs.Prelude.{◌≡◌, ℕ, ◌≤◌, false, [], ◌∷◌, ◌++◌, length, MatchResult};
 ghost use Rattle.refusal.specs.declared.reason.Refusal.TheVariants.{NoMemory};
-ghost use Rattle.settings.specs.Puts.{list_of};
-ghost use Rattle.calling.specs.Seen.{seen};
+ghost use Rattle.session.specs.Machines.{machine_of};
 ghost use Rattle.commands.specs.Commands.{command_of};
 ghost use Rattle.printing.specs.declared.detail.Detail.TheVariants.{Nothing};
 ghost use Rattle.printing.specs.Texts.{line_text};
@@ -31,9 +30,9 @@ fn run_line<N: Nvm, D: Disk>(
     out: &mut Vec<u8>,
 ) -> Result<(), Refusal>
     ensures { MatchResult result (λ _. LineWritten
-        (seen (N.Nvm.meaning session.old.store.engine.nvm) (D.Disk.meaning session.old.store.engine.disk) session.old.store.engine.state (list_of session.old.store.engine.settings)) session.old.held
+        (machine_of N.Nvm.meaning D.Disk.meaning session.old) session.old.held
         (command_of line.now) number out.old.items out.new.items
-        (seen (N.Nvm.meaning session.new.store.engine.nvm) (D.Disk.meaning session.new.store.engine.disk) session.new.store.engine.state (list_of session.new.store.engine.settings)) session.new.held) (λ e. e ≡ NoMemory) }
+        (machine_of N.Nvm.meaning D.Disk.meaning session.new) session.new.held) (λ e. e ≡ NoMemory) }
 {
     let said = session.line(heap, line)?;
     let standing = standing(&session.store);
@@ -53,13 +52,13 @@ fn run_lines<N: Nvm, D: Disk>(
 ) -> Result<Vec<u8>, Refusal>
     requires { length input.now ≤ most_bytes }
     ensures { MatchResult result (λ out. session.old.held ≡ false → (number : ℕ) × Progress
-        (seen (N.Nvm.meaning session.old.store.engine.nvm) (D.Disk.meaning session.old.store.engine.disk) session.old.store.engine.state (list_of session.old.store.engine.settings))
-        input.now [] number out.items
-        (seen (N.Nvm.meaning session.new.store.engine.nvm) (D.Disk.meaning session.new.store.engine.disk) session.new.store.engine.state (list_of session.new.store.engine.settings)) session.new.held) (λ e. e ≡ NoMemory) }
+        (machine_of N.Nvm.meaning D.Disk.meaning session.old) input.now [] number out.items
+        (machine_of N.Nvm.meaning D.Disk.meaning session.new) session.new.held) (λ e. e ≡ NoMemory) }
 {
     let mut out = Vec::new(heap);
     let mut rest = input;
     let mut number: u64 = 0;
+    // Kept: no index is counted, and each turn is about the text that is left, which an iterator of lines would hide.
     while let Some(split) = first_line(rest) {
         number += 1;
         run_line(heap, session, number, split.line, &mut out)?;
@@ -90,9 +89,8 @@ pub fn run_script<N: Nvm, D: Disk>(
     input: &[u8],
 ) -> Result<Vec<u8>, Refusal>
     ensures { MatchResult result (λ out. session.old.held ≡ false → Runs
-        (seen (N.Nvm.meaning session.old.store.engine.nvm) (D.Disk.meaning session.old.store.engine.disk) session.old.store.engine.state (list_of session.old.store.engine.settings))
-        input.now out.items
-        (seen (N.Nvm.meaning session.new.store.engine.nvm) (D.Disk.meaning session.new.store.engine.disk) session.new.store.engine.state (list_of session.new.store.engine.settings))) (λ e. e ≡ NoMemory) }
+        (machine_of N.Nvm.meaning D.Disk.meaning session.old) input.now out.items
+        (machine_of N.Nvm.meaning D.Disk.meaning session.new)) (λ e. e ≡ NoMemory) }
 {
     if input.len() > MOST_BYTES {
         return refuse(heap);
