@@ -39,6 +39,7 @@ fn answer_lines(
 ) -> anyhow::Result<()> {
     let mut rest = text;
     let mut number = 1u64;
+    // Kept: no index is counted, and an iterator of lines would be a type of its own for the same turn.
     while let Some(split) = first_line(rest) {
         print!(rt; "line {number}: ")?;
         match verb_in(split.line) {

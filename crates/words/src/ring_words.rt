@@ -44,6 +44,7 @@ fn show_numbers<W: fmt::Write>(
 }
 
 /// A place of a ring: what it is, and its words.
+// Kept: the sentence is about both parts, so no type but this one can show it.
 #[derive(Clone, Copy)]
 pub struct Place<'a> {
     pub role: Role,
@@ -68,6 +69,7 @@ impl fmt::Display for Place<'_> {
 }
 
 /// A transaction, to be printed.
+// Kept: a transaction is a slice, which has no Display of its own.
 #[derive(Clone, Copy)]
 pub struct Spelled<'a> {
     pub settings: &'a [Setting],
