@@ -25,10 +25,7 @@ impl RingDesk {
         if place >= PLACES {
             return [0; 32];
         }
-        match load_unit(&Words(self.words()), place + 1) {
-            Ok(words) => words,
-            Err(_) => [0; 32],
-        }
+        load_unit(&Words(self.words()), place + 1).unwrap_or([0; 32])
     }
 
     /// What a place is, by stepping back from the tail to the transaction that has it.

@@ -12,6 +12,7 @@ use ring::source::Words;
 use ring::{find, list};
 use ringlaws::setting::Setting;
 use ringunits::fill::append;
+use ringunits::header::{HEAD_WORD, TAIL_WORD};
 use ringunits::info::COUNT_LIMIT;
 use std::alloc::Global;
 
@@ -29,8 +30,8 @@ impl RingDesk {
         let Ok(mut image) = vec![in heap; 0; 1056] else {
             return Err(Refusal::NoMemory);
         };
-        image[8] = 30;
-        image[16] = 30;
+        image[HEAD_WORD] = 30;
+        image[TAIL_WORD] = 30;
         let Ok(waiting) = Vec::with_capacity(heap, COUNT_LIMIT) else {
             return Err(Refusal::NoMemory);
         };
@@ -41,14 +42,14 @@ impl RingDesk {
     pub fn head(&self) -> usize
         ensures { result ≡ head_in (image_of self.now) }
     {
-        self.image[8] as usize
+        self.image[HEAD_WORD] as usize
     }
 
     /// The place where it ends.
     pub fn tail(&self) -> usize
         ensures { result ≡ tail_in (image_of self.now) }
     {
-        self.image[16] as usize
+        self.image[TAIL_WORD] as usize
     }
 
     /// The words of the image.

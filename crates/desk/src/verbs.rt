@@ -1,30 +1,43 @@
 //! The lines about the ring and about the memory.
+use device::comeback::Comeback;
 use lines::numeral::number;
 use lines::split::{field, has_fields};
 
-/// What a line asks for.
+/// What a line about the ring asks for.
 #[derive(Clone, Copy)]
-pub enum Verb {
+pub enum RingVerb {
     /// Commit what waits.
     Commit,
     /// Show the ring place by place.
-    Ring,
+    Show,
     /// Walk the ring back, and show what it spells.
     Walk,
     /// Look a record up.
     Find(u64),
     /// Set a word of the ring's image.
     Damage { word: u64, value: u64 },
-    /// Store a value into a word of the memory.
+}
+
+/// What a line about the memory asks for.
+#[derive(Drop)]
+pub enum MemoryVerb {
+    /// Store a value into a word.
     Store { word: u64, value: u64 },
-    /// Flush a line of the memory.
+    /// Flush a line.
     Flush(u64),
     /// Settle what is flushed.
     Fence,
-    /// Show a word of the memory.
+    /// Show a word.
     Word(u64),
     /// Give the memory power for so many acts; unsettled words come back new, or old.
-    Restart { new: bool, acts: u64 },
+    Restart { back: Comeback, acts: u64 },
+}
+
+/// What a line asks for.
+#[derive(Drop)]
+pub enum Verb {
+    Ring(RingVerb),
+    Memory(MemoryVerb),
 }
 
 /// The number in field `k`.
@@ -35,10 +48,10 @@ fn word_at(line: &[u8], k: usize) -> Option<u64> {
 /// A line of one field.
 fn alone(verb: &[u8]) -> Option<Verb> {
     match verb {
-        b"commit" => Some(Verb::Commit),
-        b"ring" => Some(Verb::Ring),
-        b"walk" => Some(Verb::Walk),
-        b"fence" => Some(Verb::Fence),
+        b"commit" => Some(Verb::Ring(RingVerb::Commit)),
+        b"ring" => Some(Verb::Ring(RingVerb::Show)),
+        b"walk" => Some(Verb::Ring(RingVerb::Walk)),
+        b"fence" => Some(Verb::Memory(MemoryVerb::Fence)),
         _ => None,
     }
 }
@@ -46,32 +59,37 @@ fn alone(verb: &[u8]) -> Option<Verb> {
 /// A line of a verb and a number.
 fn with_number(verb: &[u8], n: u64) -> Option<Verb> {
     match verb {
-        b"find" => Some(Verb::Find(n)),
-        b"flush" => Some(Verb::Flush(n)),
-        b"word" => Some(Verb::Word(n)),
+        b"find" => Some(Verb::Ring(RingVerb::Find(n))),
+        b"flush" => Some(Verb::Memory(MemoryVerb::Flush(n))),
+        b"word" => Some(Verb::Memory(MemoryVerb::Word(n))),
+        _ => None,
+    }
+}
+
+/// How the memory comes back.
+fn comeback(word: &[u8]) -> Option<Comeback> {
+    match word {
+        b"old" => Some(Comeback::Old),
+        b"new" => Some(Comeback::New),
         _ => None,
     }
 }
 
 /// A line of a verb, a field and a number.
 fn with_two(verb: &[u8], first: &[u8], value: u64) -> Option<Verb> {
-    if verb == b"restart".as_slice() {
-        return match first {
-            b"old" => Some(Verb::Restart {
-                new: false,
-                acts: value,
-            }),
-            b"new" => Some(Verb::Restart {
-                new: true,
-                acts: value,
-            }),
-            _ => None,
-        };
-    }
-    let word = number(first)?;
     match verb {
-        b"damage" => Some(Verb::Damage { word, value }),
-        b"store" => Some(Verb::Store { word, value }),
+        b"restart" => {
+            let back = comeback(first)?;
+            Some(Verb::Memory(MemoryVerb::Restart { back, acts: value }))
+        }
+        b"damage" => {
+            let word = number(first)?;
+            Some(Verb::Ring(RingVerb::Damage { word, value }))
+        }
+        b"store" => {
+            let word = number(first)?;
+            Some(Verb::Memory(MemoryVerb::Store { word, value }))
+        }
         _ => None,
     }
 }

@@ -24,7 +24,8 @@ use Rattle.commands.specs.Commands.{Wanted, Asked, set, restart}
 use Rattle.commands.specs.Records.{Fulfils}
 use Rattle.printing.specs.declared.detail.Detail.{Detail}
 use Rattle.printing.specs.declared.detail.Detail.TheVariants as detail
-use Rattle.session.specs.declared.said.Said.{Said}
+use Rattle.printing.specs.declared.complaint.Complaint.{Complaint}
+use Rattle.printing.specs.Said.{number_shown, detail_shown}
 use Rattle.session.specs.Said.{tiles_and_masts, number_said, detail_said, needs_ticket, held_after}
 use Rattle.session.specs.Lines.{Makes, sets, return_of, leaving, Line, made, LineSaid, CallSaid, GivenUp}
 use Rattle.session.specs.Lines as spec
@@ -43,21 +44,21 @@ said_by m held c k number said n after ticket makes s = record {
 }
 
 -- the same, or want of memory
-pub spoken : (m : Machine) (held : Bool) (x : Option Asked) (c : Asked) (k : Call Joined) (n : Machine) (after : Bool) (r : Result Said Refusal) → x ≡ Some c
+pub spoken : (m : Machine) (held : Bool) (x : Option Asked) (c : Asked) (k : Call Joined) (n : Machine) (after : Bool) (r : Result (Result Detail Complaint) Refusal) → x ≡ Some c
     → (needs_ticket c ≡ true → held ≡ true) → Makes c k
-    → MatchResult r (λ s. CallSaid m held c k s.number s.detail n after) (λ e. e ≡ NoMemory)
-    → MatchResult r (λ s. LineSaid m held x s.number s.detail n after) (λ e. e ≡ NoMemory)
+    → MatchResult r (λ s. CallSaid m held c k (number_shown s) (detail_shown s) n after) (λ e. e ≡ NoMemory)
+    → MatchResult r (λ s. LineSaid m held x (number_shown s) (detail_shown s) n after) (λ e. e ≡ NoMemory)
 spoken m held x c k n after (Ok s) is ticket makes h =
-    subst (λ (y : Option Asked). LineSaid m held y s.number s.detail n after) (sym is) (said_by m held c k s.number s.detail n after ticket makes h)
+    subst (λ (y : Option Asked). LineSaid m held y (number_shown s) (detail_shown s) n after) (sym is) (said_by m held c k (number_shown s) (detail_shown s) n after ticket makes h)
 spoken m held x c k n after (Err e) is ticket makes h = h
 
 -- of a call that leaves the ticket
-pub spoken_plainly : (m : Machine) (held : Bool) (x : Option Asked) (c : Asked) (k : Call Joined) (n : Machine) (after : Bool) (r : Result Said Refusal) → x ≡ Some c
+pub spoken_plainly : (m : Machine) (held : Bool) (x : Option Asked) (c : Asked) (k : Call Joined) (n : Machine) (after : Bool) (r : Result (Result Detail Complaint) Refusal) → x ≡ Some c
     → (needs_ticket c ≡ true → held ≡ true) → Makes c k → ((a : Answer Joined) → held_after held c a ≡ held)
-    → MatchResult r (λ s. (c : Asked) → ((a : Answer Joined) → held_after held c a ≡ held) → CallSaid m held c k s.number s.detail n after) (λ e. e ≡ NoMemory)
-    → MatchResult r (λ s. LineSaid m held x s.number s.detail n after) (λ e. e ≡ NoMemory)
+    → MatchResult r (λ s. (c : Asked) → ((a : Answer Joined) → held_after held c a ≡ held) → CallSaid m held c k (number_shown s) (detail_shown s) n after) (λ e. e ≡ NoMemory)
+    → MatchResult r (λ s. LineSaid m held x (number_shown s) (detail_shown s) n after) (λ e. e ≡ NoMemory)
 spoken_plainly m held x c k n after (Ok s) is ticket makes leaves h =
-    subst (λ (y : Option Asked). LineSaid m held y s.number s.detail n after) (sym is) (said_by m held c k s.number s.detail n after ticket makes (h c leaves))
+    subst (λ (y : Option Asked). LineSaid m held y (number_shown s) (detail_shown s) n after) (sym is) (said_by m held c k (number_shown s) (detail_shown s) n after ticket makes (h c leaves))
 spoken_plainly m held x c k n after (Err e) is ticket makes leaves h = h
 
 -- no command asked for a ticket that does not need one
@@ -134,23 +135,23 @@ same_return a b contents x y p q =
     ∙ ap (λ (c : Comeback). Restart (record { nvm = comeback_of contents; disk = c; nvm_acts = x; disk_acts = y })) q
 
 -- a record that was made is set
-pub spoken_set : (m : Machine) (held : Bool) (x : ℕ) (w : Wanted) (v : Joined) (n : Machine) (after : Bool) (r : Result Said Refusal) → Fulfils w v
-    → MatchResult r (λ s. (c : Asked) → ((a : Answer Joined) → held_after held c a ≡ held) → CallSaid m held c (call.Set x v) s.number s.detail n after) (λ e. e ≡ NoMemory)
-    → MatchResult r (λ s. held ≡ true → LineSaid m held (Some (set x w)) s.number s.detail n after) (λ e. e ≡ NoMemory)
-spoken_set m held x w v n after (Ok s) f h = λ is. said_by m held (set x w) (call.Set x v) s.number s.detail n after (λ k. is) (sets f) (h (set x w) (λ a. refl))
+pub spoken_set : (m : Machine) (held : Bool) (x : ℕ) (w : Wanted) (v : Joined) (n : Machine) (after : Bool) (r : Result (Result Detail Complaint) Refusal) → Fulfils w v
+    → MatchResult r (λ s. (c : Asked) → ((a : Answer Joined) → held_after held c a ≡ held) → CallSaid m held c (call.Set x v) (number_shown s) (detail_shown s) n after) (λ e. e ≡ NoMemory)
+    → MatchResult r (λ s. held ≡ true → LineSaid m held (Some (set x w)) (number_shown s) (detail_shown s) n after) (λ e. e ≡ NoMemory)
+spoken_set m held x w v n after (Ok s) f h = λ is. said_by m held (set x w) (call.Set x v) (number_shown s) (detail_shown s) n after (λ k. is) (sets f) (h (set x w) (λ a. refl))
 spoken_set m held x w v n after (Err e) f h = h
 
 -- lines by another name of what they ask
-pub renamed : (m : Machine) (held : Bool) (x y : Option Asked) (n : Machine) (after : Bool) (r : Result Said Refusal) → x ≡ y
-    → MatchResult r (λ s. LineSaid m held y s.number s.detail n after) (λ e. e ≡ NoMemory)
-    → MatchResult r (λ s. LineSaid m held x s.number s.detail n after) (λ e. e ≡ NoMemory)
-renamed m held x y n after (Ok s) is h = subst (λ (z : Option Asked). LineSaid m held z s.number s.detail n after) (sym is) h
+pub renamed : (m : Machine) (held : Bool) (x y : Option Asked) (n : Machine) (after : Bool) (r : Result (Result Detail Complaint) Refusal) → x ≡ y
+    → MatchResult r (λ s. LineSaid m held y (number_shown s) (detail_shown s) n after) (λ e. e ≡ NoMemory)
+    → MatchResult r (λ s. LineSaid m held x (number_shown s) (detail_shown s) n after) (λ e. e ≡ NoMemory)
+renamed m held x y n after (Ok s) is h = subst (λ (z : Option Asked). LineSaid m held z (number_shown s) (detail_shown s) n after) (sym is) h
 renamed m held x y n after (Err e) is h = h
 
-pub with_ticket : (m : Machine) (held : Bool) (x y : Option Asked) (n : Machine) (after : Bool) (r : Result Said Refusal) → x ≡ y → held ≡ true
-    → MatchResult r (λ s. held ≡ true → LineSaid m held y s.number s.detail n after) (λ e. e ≡ NoMemory)
-    → MatchResult r (λ s. LineSaid m held x s.number s.detail n after) (λ e. e ≡ NoMemory)
-with_ticket m held x y n after (Ok s) is ticket h = subst (λ (z : Option Asked). LineSaid m held z s.number s.detail n after) (sym is) (h ticket)
+pub with_ticket : (m : Machine) (held : Bool) (x y : Option Asked) (n : Machine) (after : Bool) (r : Result (Result Detail Complaint) Refusal) → x ≡ y → held ≡ true
+    → MatchResult r (λ s. held ≡ true → LineSaid m held y (number_shown s) (detail_shown s) n after) (λ e. e ≡ NoMemory)
+    → MatchResult r (λ s. LineSaid m held x (number_shown s) (detail_shown s) n after) (λ e. e ≡ NoMemory)
+with_ticket m held x y n after (Ok s) is ticket h = subst (λ (z : Option Asked). LineSaid m held z (number_shown s) (detail_shown s) n after) (sym is) (h ticket)
 with_ticket m held x y n after (Err e) is ticket h = h
 
 pub another_form : (m : Machine) (held : Bool) (x : Option Asked) (number : ℕ) (said : Detail) → None ≡ x → number ≡ 90 → said ≡ detail.Nothing → LineSaid m held x number said m held

@@ -1,28 +1,25 @@
 //! A whole script.
 ghost use Rattle.std.specs.Prelude.{◌≡◌, ℕ, ◌≤◌, false, [], ◌∷◌, ◌++◌, length, MatchResult};
 ghost use Rattle.refusal.specs.declared.reason.Refusal.TheVariants.{NoMemory};
-ghost use Rattle.settings.specs.Puts.{list_of};
-ghost use Rattle.calling.specs.Seen.{seen};
+ghost use Rattle.session.specs.Machines.{machine_of};
 ghost use Rattle.commands.specs.Commands.{command_of};
 ghost use Rattle.printing.specs.declared.detail.Detail.TheVariants.{Nothing};
 ghost use Rattle.printing.specs.Texts.{line_text};
 ghost use Rattle.session.specs.Lines.{most_bytes, LineWritten, Progress, Script, Runs};
 
-use crate::said::letter;
+use crate::said::standing;
 use crate::session::Session;
 use device::disk::Disk;
 use device::nvm::Nvm;
 use lines::split::first_line;
-use printing::detail::Detail;
-use printing::line::write_line;
+use printing::complaint::Complaint;
+use printing::line::Line;
+use printing::standing::Standing;
 use refusal::reason::Refusal;
 use std::alloc::Global;
 
 /// The most bytes of a script.
 pub const MOST_BYTES: usize = 65536;
-
-/// The number that a longer script prints.
-const TOO_LONG: u32 = 91;
 
 /// Runs one line, and writes its line of the output behind what is there.
 fn run_line<N: Nvm, D: Disk>(
@@ -33,16 +30,18 @@ fn run_line<N: Nvm, D: Disk>(
     out: &mut Vec<u8>,
 ) -> Result<(), Refusal>
     ensures { MatchResult result (λ _. LineWritten
-        (seen (N.Nvm.meaning session.old.store.engine.nvm) (D.Disk.meaning session.old.store.engine.disk) session.old.store.engine.state (list_of session.old.store.engine.settings)) session.old.held
+        (machine_of N.Nvm.meaning D.Disk.meaning session.old) session.old.held
         (command_of line.now) number out.old.items out.new.items
-        (seen (N.Nvm.meaning session.new.store.engine.nvm) (D.Disk.meaning session.new.store.engine.disk) session.new.store.engine.state (list_of session.new.store.engine.settings)) session.new.held) (λ e. e ≡ NoMemory) }
+        (machine_of N.Nvm.meaning D.Disk.meaning session.new) session.new.held) (λ e. e ≡ NoMemory) }
 {
     let said = session.line(heap, line)?;
-    let state = letter(&session.store);
-    match write_line(out, number, state, said.number, &said.detail) {
-        Ok(()) => Ok(()),
-        Err(_) => Err(Refusal::NoMemory),
-    }
+    let standing = standing(&session.store);
+    let line = Line {
+        number,
+        standing,
+        said,
+    };
+    line.write_to(out).map_err(|_| Refusal::NoMemory)
 }
 
 /// Runs the lines of a script, one after another.
@@ -53,13 +52,13 @@ fn run_lines<N: Nvm, D: Disk>(
 ) -> Result<Vec<u8>, Refusal>
     requires { length input.now ≤ most_bytes }
     ensures { MatchResult result (λ out. session.old.held ≡ false → (number : ℕ) × Progress
-        (seen (N.Nvm.meaning session.old.store.engine.nvm) (D.Disk.meaning session.old.store.engine.disk) session.old.store.engine.state (list_of session.old.store.engine.settings))
-        input.now [] number out.items
-        (seen (N.Nvm.meaning session.new.store.engine.nvm) (D.Disk.meaning session.new.store.engine.disk) session.new.store.engine.state (list_of session.new.store.engine.settings)) session.new.held) (λ e. e ≡ NoMemory) }
+        (machine_of N.Nvm.meaning D.Disk.meaning session.old) input.now [] number out.items
+        (machine_of N.Nvm.meaning D.Disk.meaning session.new) session.new.held) (λ e. e ≡ NoMemory) }
 {
     let mut out = Vec::new(heap);
     let mut rest = input;
     let mut number: u64 = 0;
+    // Kept: no index is counted, and each turn is about the text that is left, which an iterator of lines would hide.
     while let Some(split) = first_line(rest) {
         number += 1;
         run_line(heap, session, number, split.line, &mut out)?;
@@ -73,10 +72,13 @@ fn refuse(heap: Global) -> Result<Vec<u8>, Refusal>
     ensures { MatchResult result (λ out. out.items ≡ line_text 0 117 91 Nothing) (λ e. e ≡ NoMemory) }
 {
     let mut out = Vec::new(heap);
-    match write_line(&mut out, 0, 'u', TOO_LONG, &Detail::Nothing) {
-        Ok(()) => Ok(out),
-        Err(_) => Err(Refusal::NoMemory),
-    }
+    let line = Line {
+        number: 0,
+        standing: Standing::Unmounted,
+        said: Err(Complaint::TooLong),
+    };
+    line.write_to(&mut out).map_err(|_| Refusal::NoMemory)?;
+    Ok(out)
 }
 
 /// Runs a script in a session without a ticket and gives what it prints: a line for each of its lines. The end of the script gives a
@@ -87,9 +89,8 @@ pub fn run_script<N: Nvm, D: Disk>(
     input: &[u8],
 ) -> Result<Vec<u8>, Refusal>
     ensures { MatchResult result (λ out. session.old.held ≡ false → Runs
-        (seen (N.Nvm.meaning session.old.store.engine.nvm) (D.Disk.meaning session.old.store.engine.disk) session.old.store.engine.state (list_of session.old.store.engine.settings))
-        input.now out.items
-        (seen (N.Nvm.meaning session.new.store.engine.nvm) (D.Disk.meaning session.new.store.engine.disk) session.new.store.engine.state (list_of session.new.store.engine.settings))) (λ e. e ≡ NoMemory) }
+        (machine_of N.Nvm.meaning D.Disk.meaning session.old) input.now out.items
+        (machine_of N.Nvm.meaning D.Disk.meaning session.new)) (λ e. e ≡ NoMemory) }
 {
     if input.len() > MOST_BYTES {
         return refuse(heap);

@@ -1,8 +1,7 @@
 //! A store with or without a held ticket, and what is asked of it.
 ghost use Rattle.std.specs.Prelude.{◌≡◌, false, [], ◌∷◌, length, MatchResult};
 ghost use Rattle.refusal.specs.declared.reason.Refusal.TheVariants.{NoMemory};
-ghost use Rattle.settings.specs.Puts.{list_of};
-ghost use Rattle.calling.specs.Seen.{seen};
+ghost use Rattle.session.specs.Machines.{machine_of};
 ghost use Rattle.promise.specs.Told.{Performs};
 ghost use Rattle.session.specs.Said.{tiles_and_masts};
 
@@ -34,16 +33,12 @@ impl<N: Nvm, D: Disk> Session<N, D> {
     /// Asks one thing of the store.
     pub fn ask(&mut self, heap: Global, request: Request<Joined>) -> Result<Answer<Joined>, Refusal>
         ensures answer { MatchResult result (λ a. Performs tiles_and_masts
-            (seen (N.Nvm.meaning self.old.store.engine.nvm) (D.Disk.meaning self.old.store.engine.disk) self.old.store.engine.state (list_of self.old.store.engine.settings))
-            (request ∷ []) (a ∷ [])
-            (seen (N.Nvm.meaning self.new.store.engine.nvm) (D.Disk.meaning self.new.store.engine.disk) self.new.store.engine.state (list_of self.new.store.engine.settings))) (λ e. e ≡ NoMemory) }
+            (machine_of N.Nvm.meaning D.Disk.meaning self.old) (request ∷ []) (a ∷ [])
+            (machine_of N.Nvm.meaning D.Disk.meaning self.new)) (λ e. e ≡ NoMemory) }
         ensures ticket { self.new.held ≡ self.old.held }
     {
         let requests = [request];
         let mut answers = self.store.run(heap, &requests)?;
-        match answers.pop() {
-            Some(answer) => Ok(answer),
-            None => Err(Refusal::NoMemory),
-        }
+        answers.pop().ok_or(Refusal::NoMemory)
     }
 }

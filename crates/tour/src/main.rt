@@ -11,17 +11,10 @@ use desk::ring_desk::RingDesk;
 use desk::verbs::{Verb, verb_in};
 use lines::split::first_line;
 use nvms::devices::PatientNvm;
-use std::io::Read;
+use reading::read_past;
 use words::{InShort, InWords};
 use workbench::answer::Answer;
 use workbench::perform::{LIMIT, refuse_input, run_line};
-
-/// All of the input, or of a longer one as much as shows that it is too long.
-fn read_input(rt: &HostRuntime) -> anyhow::Result<Vec<u8>> {
-    let mut text = Vec::new(rt.alloc());
-    let _ = rt.stdin().take(LIMIT as u64 + 1).read_to_end(&mut text)?;
-    Ok(text)
-}
 
 /// Runs a line about a tile or a mast, which then waits for a commit.
 fn run_record(rt: &HostRuntime, desk: &mut RingDesk, line: &[u8]) -> anyhow::Result<()> {
@@ -46,14 +39,13 @@ fn answer_lines(
 ) -> anyhow::Result<()> {
     let mut rest = text;
     let mut number = 1u64;
+    // Kept: no index is counted, and an iterator of lines would be a type of its own for the same turn.
     while let Some(split) = first_line(rest) {
         print!(rt; "line {number}: ")?;
         match verb_in(split.line) {
             None => run_record(rt, desk, split.line)?,
-            Some(verb) => {
-                run_ring(rt, desk, verb)?;
-                run_memory(rt, nvm, verb)?;
-            }
+            Some(Verb::Ring(verb)) => run_ring(rt, desk, verb)?,
+            Some(Verb::Memory(verb)) => run_memory(rt, nvm, verb)?,
         }
         number = number.wrapping_add(1);
         rest = split.rest;
@@ -73,7 +65,7 @@ fn run_lines(rt: &HostRuntime, text: &[u8]) -> anyhow::Result<()> {
 }
 
 fn tour(rt: &HostRuntime) -> anyhow::Result<()> {
-    let text = read_input(rt)?;
+    let text = read_past(rt.alloc(), rt.stdin(), LIMIT)?;
     match refuse_input(text.as_slice()) {
         Some(answer) => {
             let words = InWords { answer: &answer };

@@ -1,5 +1,5 @@
 //! Lines about the memory.
-use desk::verbs::Verb;
+use desk::verbs::MemoryVerb;
 use device::comeback::Comeback;
 use device::nvm::Nvm;
 use nvm_words::mark::Mark;
@@ -43,10 +43,14 @@ fn marks(nvm: &PatientNvm) -> [Mark; SIZE] {
 }
 
 /// Gives the memory power again, and shows what each unsettled word came back as.
-fn restart(rt: &HostRuntime, nvm: &mut PatientNvm, new: bool, acts: u64) -> anyhow::Result<()> {
+fn restart(
+    rt: &HostRuntime,
+    nvm: &mut PatientNvm,
+    back: &Comeback,
+    acts: u64,
+) -> anyhow::Result<()> {
     let before = marks(nvm);
-    let how = if new { Comeback::New } else { Comeback::Old };
-    nvm.restart(&how, acts);
+    nvm.restart(back, acts);
     println!(rt; "power for {acts} acts")?;
     for (word, mark) in before.iter().enumerate() {
         if mark.is_unsettled() {
@@ -58,14 +62,13 @@ fn restart(rt: &HostRuntime, nvm: &mut PatientNvm, new: bool, acts: u64) -> anyh
     Ok(())
 }
 
-/// Runs a line, if it is about the memory.
-pub fn run_memory(rt: &HostRuntime, nvm: &mut PatientNvm, verb: Verb) -> anyhow::Result<()> {
+/// Runs a line about the memory.
+pub fn run_memory(rt: &HostRuntime, nvm: &mut PatientNvm, verb: MemoryVerb) -> anyhow::Result<()> {
     match verb {
-        Verb::Store { word, value } => say(rt, nvm.store(word as usize, value)),
-        Verb::Flush(line) => say(rt, nvm.flush(line as usize)),
-        Verb::Fence => say(rt, nvm.fence()),
-        Verb::Word(word) => show_word(rt, nvm, word as usize),
-        Verb::Restart { new, acts } => restart(rt, nvm, new, acts),
-        _ => Ok(()),
+        MemoryVerb::Store { word, value } => say(rt, nvm.store(word as usize, value)),
+        MemoryVerb::Flush(line) => say(rt, nvm.flush(line as usize)),
+        MemoryVerb::Fence => say(rt, nvm.fence()),
+        MemoryVerb::Word(word) => show_word(rt, nvm, word as usize),
+        MemoryVerb::Restart { back, acts } => restart(rt, nvm, &back, acts),
     }
 }

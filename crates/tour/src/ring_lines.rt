@@ -1,7 +1,7 @@
 //! Lines about the ring.
 use desk::ring_desk::RingDesk;
 use desk::rings::PLACES;
-use desk::verbs::Verb;
+use desk::verbs::RingVerb;
 use refusal::reason::Refusal;
 use words::InShort;
 use words::ring_words::{Place, Spelled};
@@ -76,17 +76,16 @@ fn find(rt: &HostRuntime, desk: &RingDesk, number: u64) -> anyhow::Result<()> {
     }
 }
 
-/// Runs a line, if it is about the ring.
-pub fn run_ring(rt: &HostRuntime, desk: &mut RingDesk, verb: Verb) -> anyhow::Result<()> {
+/// Runs a line about the ring.
+pub fn run_ring(rt: &HostRuntime, desk: &mut RingDesk, verb: RingVerb) -> anyhow::Result<()> {
     match verb {
-        Verb::Commit => commit(rt, desk),
-        Verb::Ring => show_places(rt, desk),
-        Verb::Walk => walk(rt, desk),
-        Verb::Find(number) => find(rt, desk, number),
-        Verb::Damage { word, value } => match desk.damage(word as usize, value) {
+        RingVerb::Commit => commit(rt, desk),
+        RingVerb::Show => show_places(rt, desk),
+        RingVerb::Walk => walk(rt, desk),
+        RingVerb::Find(number) => find(rt, desk, number),
+        RingVerb::Damage { word, value } => match desk.damage(word as usize, value) {
             Ok(()) => Ok(println!(rt; "word {word} of the image is {value} now")?),
             Err(why) => refuse(rt, why),
         },
-        _ => Ok(()),
     }
 }

@@ -68,14 +68,11 @@ fn show_mast<W: fmt::Write>(
     f: &mut fmt::Formatter<W>,
 ) -> fmt::Result {
     let number = mast.number();
-    write!(f, "mast {number} \"")?;
-    for byte in mast.name() {
-        f.write_char(char::from(*byte))?;
-    }
-    let [kind, first, second, name, ..] = unit;
+    let name = mast.text();
+    let [kind, first, second, start, ..] = unit;
     write!(
         f,
-        "\", written as a unit of 256 bytes (words {kind}, {first}, {second}, {name:#x}, ..)"
+        "mast {number} \"{name}\", written as a unit of 256 bytes (words {kind}, {first}, {second}, {start:#x}, ..)"
     )
 }
 
@@ -101,6 +98,7 @@ fn show_answer<W: fmt::Write>(answer: &Answer, f: &mut fmt::Formatter<W>) -> fmt
 }
 
 /// An answer, to be printed.
+// Kept: an answer's own Display would have to stand in its crate, and these sentences are this program's alone.
 #[derive(Clone, Copy)]
 pub struct InWords<'a> {
     pub answer: &'a Answer,
@@ -113,6 +111,7 @@ impl fmt::Display for InWords<'_> {
 }
 
 /// A refusal, to be printed: its number, why, and the place where a ring is unsound.
+// Kept: a refusal's own Display would have to stand in its crate, and the store refuses more than this program has sentences for.
 #[derive(Clone, Copy)]
 pub struct InShort {
     pub why: Refusal,

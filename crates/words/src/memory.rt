@@ -3,6 +3,7 @@ use nvm_words::mark::Mark;
 use std::fmt;
 
 /// A mark, to be printed.
+// Kept: a mark's own Display would have to stand in its crate, and these words are this program's alone.
 #[derive(Clone, Copy)]
 pub struct Marked {
     pub mark: Mark,

@@ -17,11 +17,8 @@ fn show_record<W: fmt::Write>(value: &Joined, f: &mut fmt::Formatter<W>) -> fmt:
         }
         Joined::Mast(mast) => {
             let number = mast.number();
-            write!(f, "mast {number} \"")?;
-            for byte in mast.name() {
-                f.write_char(char::from(*byte))?;
-            }
-            f.write_char('"')
+            let name = mast.text();
+            write!(f, "mast {number} \"{name}\"")
         }
     }
 }
@@ -40,15 +37,14 @@ fn show_numbers<W: fmt::Write>(
     count: usize,
     f: &mut fmt::Formatter<W>,
 ) -> fmt::Result {
-    for (i, number) in words.iter().enumerate() {
-        if i < count {
-            write!(f, " {number}")?;
-        }
+    for number in words.iter().take(count) {
+        write!(f, " {number}")?;
     }
     Ok(())
 }
 
 /// A place of a ring: what it is, and its words.
+// Kept: the sentence is about both parts, so no type but this one can show it.
 #[derive(Clone, Copy)]
 pub struct Place<'a> {
     pub role: Role,
@@ -73,6 +69,7 @@ impl fmt::Display for Place<'_> {
 }
 
 /// A transaction, to be printed.
+// Kept: a transaction is a slice, which has no Display of its own.
 #[derive(Clone, Copy)]
 pub struct Spelled<'a> {
     pub settings: &'a [Setting],

@@ -1,6 +1,5 @@
 use Rattle.std.proofs.Common.{◌≡◌, ◌+◌, ◌≤◌, false, length, vec_items}
-use Rattle.settings.specs.Puts.{list_of}
-use Rattle.calling.specs.Seen.{seen}
+use Rattle.session.specs.Machines.{machine_of}
 use Rattle.session.specs.Lines.{Progress}
 use Rattle.session.proofs.script.run_lines.Given as goal
 
@@ -9,9 +8,9 @@ abbrev pub invariant-loop-split : goal.invariant-loop-split
 invariant-loop-split g l =
     (l.number + length l.rest ≤ length l.input)
     × (l.initial.session.held ≡ false → Progress
-    (seen (g.N.Nvm.meaning l.initial.session.store.engine.nvm) (g.D.Disk.meaning l.initial.session.store.engine.disk) l.initial.session.store.engine.state (list_of l.initial.session.store.engine.settings))
+    (machine_of g.N.Nvm.meaning g.D.Disk.meaning l.initial.session)
     l.input l.rest l.number (vec_items l.out)
-    (seen (g.N.Nvm.meaning l.session.store.engine.nvm) (g.D.Disk.meaning l.session.store.engine.disk) l.session.store.engine.state (list_of l.session.store.engine.settings))
+    (machine_of g.N.Nvm.meaning g.D.Disk.meaning l.session)
     l.session.held)
 
 abbrev pub decreases-loop-split : goal.decreases-loop-split
