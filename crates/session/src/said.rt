@@ -13,9 +13,9 @@ use device::disk::Disk;
 use device::nvm::Nvm;
 use joined::kind::JoinedKind;
 use joined::record::Joined;
-use journal::store::Store;
 use printing::detail::Detail;
 use refusal::reason::Refusal;
+use store::store::Store;
 
 /// The number and the detail of a line.
 #[derive(Clone, Copy)]
