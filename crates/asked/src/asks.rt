@@ -6,13 +6,13 @@ use device::disk::Disk;
 use device::nvm::Nvm;
 use joined::kind::JoinedKind;
 use joined::record::Joined;
-use journal::store::Store;
 use mast::record::Mast;
 use promise::request::{Request, Return};
 use refusal::reason::Refusal;
 use std::alloc::{AllocError, Global};
 use std::fmt::Debug;
 use std::test::Fail;
+use store::store::Store;
 use tile::record::Tile;
 
 /// How the devices come back, and after how many acts the memory and the disk go dark.
@@ -72,10 +72,9 @@ pub fn value_of(found: &Joined) -> Option<u64> {
         Joined::Mast(mast) => mast.number(),
         Joined::Tile(tile) => tile.plan(),
     };
-    match record_of(value) {
-        Ok(made) => { if made == *found { Some(value) } else { None } }
-        Err(_) => None,
-    }
+    record_of(value)
+        .is_ok_and(|made| made == *found)
+        .then_some(value)
 }
 
 /// Whether a mixed pattern has the piece with this number come back new.
@@ -85,11 +84,7 @@ pub fn bit(seed: u64, piece: u64) -> bool {
 
 /// A pattern of bits for 1,056 words or sectors.
 pub fn pattern(heap: Global, seed: u64) -> Result<Vec<bool>, AllocError> {
-    let mut bits = Vec::new(heap);
-    for piece in 0..1056u64 {
-        bits.push(bit(seed, piece))?;
-    }
-    Ok(bits)
+    (0..1056u64).map(|piece| bit(seed, piece)).collect(heap)
 }
 
 /// Pseudo-random numbers: the one after this.
@@ -142,25 +137,26 @@ pub fn request_of(heap: Global, ask: Ask) -> Result<Request<Joined>, Fail> {
 }
 
 /// A refusal as a reply.
-pub fn refused(refusal: Refusal) -> Reply {
-    match refusal {
-        Refusal::UnsoundRing(place) => Reply::Unsound(place),
-        other => Reply::No(other.number()),
+impl From<Refusal> for Reply {
+    fn from(refusal: Refusal) -> Reply {
+        match refusal {
+            Refusal::UnsoundRing(place) => Reply::Unsound(place),
+            other => Reply::No(other.number()),
+        }
     }
 }
 
 /// An answer as a reply.
-pub fn reply_of(answer: &Answer<Joined>) -> Reply {
-    match answer {
-        Answer::Refused(refusal) => refused(*refusal),
-        Answer::Done => Reply::Done,
-        Answer::Used(places) => Reply::Used(*places),
-        Answer::Blocks(count) => Reply::Blocks(*count),
-        Answer::Absent => Reply::Absent,
-        Answer::Found(found) => match value_of(found) {
-            Some(value) => Reply::Found(value),
-            None => Reply::Strange,
-        },
+impl From<&Answer<Joined>> for Reply {
+    fn from(answer: &Answer<Joined>) -> Reply {
+        match answer {
+            Answer::Refused(refusal) => Reply::from(*refusal),
+            Answer::Done => Reply::Done,
+            Answer::Used(places) => Reply::Used(*places),
+            Answer::Blocks(count) => Reply::Blocks(*count),
+            Answer::Absent => Reply::Absent,
+            Answer::Found(found) => value_of(found).map_or(Reply::Strange, Reply::Found),
+        }
     }
 }
 
@@ -175,11 +171,12 @@ pub fn replies<N: Nvm, D: Disk>(
         requests.push(request_of(heap, *ask)?)?;
     }
     let answers = store.run(heap, requests.as_slice())?;
-    let mut made = Vec::new(heap);
-    for answer in answers.iter() {
-        made.push(reply_of(answer))?;
-    }
-    Ok(made)
+    Ok(
+        answers
+            .iter()
+            .map(|answer| Reply::from(answer))
+            .collect(heap)?,
+    )
 }
 
 /// Asks for one thing.
@@ -211,10 +208,7 @@ pub fn follow<N: Nvm, D: Disk>(
     store: &mut Store<N, D, JoinedKind>,
     rows: &[Row],
 ) -> Result<(), Fail> {
-    let mut asks = Vec::new(heap);
-    for row in rows {
-        asks.push(row.0)?;
-    }
+    let asks: Vec<Ask> = rows.iter().map(|row| row.0).collect(heap)?;
     let seen = replies(heap, store, asks.as_slice())?;
     same(seen.len(), rows.len())?;
     for (row, reply) in rows.iter().zip(seen.iter()) {
@@ -231,10 +225,7 @@ pub fn read_all<N: Nvm, D: Disk>(
     heap: Global,
     store: &mut Store<N, D, JoinedKind>,
 ) -> Result<Table, Fail> {
-    let mut asks = Vec::new(heap);
-    for number in 0..32u64 {
-        asks.push(Ask::Read(number))?;
-    }
+    let asks: Vec<Ask> = (0..32u64).map(|number| Ask::Read(number)).collect(heap)?;
     let seen = replies(heap, store, asks.as_slice())?;
     let mut table = [0; 32];
     for (place, reply) in table.iter_mut().zip(seen.iter()) {
@@ -253,10 +244,7 @@ pub fn store_of<N: Nvm + Drop, D: Disk + Drop>(
     nvm: N,
     disk: D,
 ) -> Result<Store<N, D, JoinedKind>, Fail> {
-    match Store::new(heap, nvm, disk) {
-        Ok(store) => Ok(store),
-        Err(_) => Err(Fail::new("no memory for a store")),
-    }
+    Store::new(heap, nvm, disk).map_err(|_| Fail::new("no memory for a store"))
 }
 
 /// Begins a transaction and sets the records 0 to `count` - 1, each to its number and 101 more.

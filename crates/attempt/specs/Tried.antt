@@ -6,7 +6,7 @@ use Rattle.calls.specs.declared.answer.Answer.{Answer}
 use Rattle.calls.specs.declared.answer.Answer.TheVariants.{Done}
 use Rattle.calls.specs.Plans.{Machine, Kind}
 use Rattle.calls.specs.Steps.{Step}
-use Rattle.store.specs.Called.{done_answer}
+use Rattle.calling.specs.Seen.{done_answer}
 
 -- Begin is refused, and that is the answer; or a transaction begins, sets the record, which gives the answer, and is abandoned.
 pub data Tried {R : Type 0} (kind : Kind R) (m : Machine) (number : ℕ) (x : R) (r : Result (Unit {0}) Refusal) (n : Machine) : Type 0 where

@@ -3,8 +3,7 @@
 
 ghost use Rattle.std.specs.Prelude.{◌≡◌, IfSome};
 ghost use Rattle.order.specs.Order.{kind_of};
-ghost use Rattle.settings.specs.Puts.{list_of};
-ghost use Rattle.store.specs.Called.{seen};
+ghost use Rattle.store.specs.Machine.{machine};
 ghost use Rattle.attempt.specs.Tried.{Tried, GivenBack};
 
 use device::disk::Disk;
@@ -20,10 +19,7 @@ pub fn try_set<N: Nvm, D: Disk, K: RecordKind>(
     number: u64,
     value: &K::Record,
 ) -> Result<(), Refusal>
-    ensures { Tried (kind_of K.RecordKind.unit K.RecordKind.reads)
-        (seen (N.Nvm.meaning store.old.nvm) (D.Disk.meaning store.old.disk) store.old.state (list_of store.old.settings))
-        number value.now result
-        (seen (N.Nvm.meaning store.new.nvm) (D.Disk.meaning store.new.disk) store.new.state (list_of store.new.settings)) }
+    ensures { Tried (kind_of K.RecordKind.unit K.RecordKind.reads) (machine store.old) number value.now result (machine store.new) }
 {
     let ticket = store.begin()?;
     let answer = store.set(&ticket, number, value);
@@ -37,10 +33,7 @@ pub fn give_back<N: Nvm, D: Disk, K: RecordKind>(
     held: Option<Ticket>,
 ) -> Result<(), Refusal>
     requires { IfSome held (λ t. t.live ≡ 1) }
-    ensures { GivenBack (kind_of K.RecordKind.unit K.RecordKind.reads) held
-        (seen (N.Nvm.meaning store.old.nvm) (D.Disk.meaning store.old.disk) store.old.state (list_of store.old.settings))
-        result
-        (seen (N.Nvm.meaning store.new.nvm) (D.Disk.meaning store.new.disk) store.new.state (list_of store.new.settings)) }
+    ensures { GivenBack (kind_of K.RecordKind.unit K.RecordKind.reads) held (machine store.old) result (machine store.new) }
 {
     match held {
         Some(ticket) => store.abandon(ticket),

@@ -5,10 +5,10 @@ use asked::asks::*;
 use device::disk::Disk;
 use device::nvm::Nvm;
 use joined::kind::JoinedKind;
-use journal::store::Store;
 use std::alloc::Global;
 use std::process::Abort;
 use std::test::Fail;
+use store::store::Store;
 
 /// The acts of a format on the memory and on the disk.
 const FORMAT: u64 = 175;

@@ -19,9 +19,12 @@ use Rattle.calls.specs.declared.answer.Answer.TheVariants.{Refused, Absent}
 use Rattle.calls.specs.Judge.{judge}
 use Rattle.calls.specs.Plans.{Machine, Kind, Plan, blocks_of, table_of, read_by, read_unit, refusing, plan_by}
 use Rattle.calls.specs.Steps.{Step, Went, went}
-use Rattle.order.specs.Order.{InOrder}
+use Rattle.order.specs.Order.{InOrder, EndsThere, WritesUnits}
 use Rattle.calling.specs.Seen.{seen}
 use Rattle.calling.specs.Reading.{unit_read}
+use Rattle.engine.specs.Called.{Called}
+use Rattle.engine.proofs.Admitted.{called}
+use Rattle.engine.proofs.Ordered.{in_order}
 
 -- the state that each call is let through in
 pub format_unmounted : (s : State) → judge {R = Unit {0}} s Format ≡ None → s ≡ Unmounted
@@ -90,15 +93,18 @@ module _ {R : Type 0} (kind : Kind R) (m : Machine) (r : ℕ) (lit : is_dark m.d
   pub read_found : (u : List ℕ) (o : Option R) → Ok u ≡ unit_read m r → all_zero u ≡ false → o ≡ kind.reads u → Step kind m (Read r) (read_by o) m
   read_found u o found some is = by_unit u (read_by o) found (ap read_by is ∙ sym (cond-false (all_zero u) Absent (read_by (kind.reads u)) some))
 
--- steps of a store by other names of its state and settings
-pub moved : {R : Type 0} (kind : Kind R) (call : Call R) (a : Answer R) (nvm : NvmMeaning) (disk : DiskMeaning) (n : NvmMeaning) (d : DiskMeaning)
-    (s t : State) (l k : Transaction) (s' t' : State) (l' k' : Transaction) → s ≡ t → l ≡ k → s' ≡ t' → l' ≡ k'
-    → Step kind (seen nvm disk t k) call a (seen n d t' k') → Step kind (seen nvm disk s l) call a (seen n d s' l')
-moved kind call a nvm disk n d s t l k s' t' l' k' p q x y step =
-    subst (λ (i : State). Step kind (seen nvm disk i l) call a (seen n d s' l')) (sym p)
+-- a call that was let through is a step of the store, whose state and settings have other names where its devices were called
+pub by_names : {R : Type 0} (kind : Kind R) → WritesUnits kind → {call : Call R} {a : Answer R} {nvm : NvmMeaning} {disk : DiskMeaning} {n : NvmMeaning} {d : DiskMeaning}
+    {s t : State} {l k : Transaction} {s' t' : State} {l' k' : Transaction} → EndsThere (seen nvm disk s l) → s ≡ t → l ≡ k → s' ≡ t' → l' ≡ k'
+    → Step kind (seen nvm disk t k) call a (seen n d t' k') → Called kind (seen nvm disk s l) call a (seen n d s' l')
+by_names kind units {call = call} {a = a} {nvm = nvm} {disk = disk} {n = n} {d = d} {s = s} {t = t} {l = l} {k = k} {s' = s'} {t' = t'} {l' = l'} ends p q x y step =
+    called kind units (seen nvm disk s l) ends call a (seen n d s' l')
+    (subst (λ (i : State). Step kind (seen nvm disk i l) call a (seen n d s' l')) (sym p)
     (subst (λ (i : Transaction). Step kind (seen nvm disk t i) call a (seen n d s' l')) (sym q)
     (subst (λ (i : State). Step kind (seen nvm disk t k) call a (seen n d i l')) (sym x)
-    (subst (λ (i : Transaction). Step kind (seen nvm disk t k) call a (seen n d t' i)) (sym y) step)))
+    (subst (λ (i : Transaction). Step kind (seen nvm disk t k) call a (seen n d t' i)) (sym y) step))))
 
-pub ordered : (nvm : NvmMeaning) (disk : DiskMeaning) (s t : State) (l k : Transaction) → s ≡ t → l ≡ k → InOrder (seen nvm disk s l) → InOrder (seen nvm disk t k)
-ordered nvm disk s t l k p q o = subst (λ (i : State). InOrder (seen nvm disk i k)) p (subst (λ (i : Transaction). InOrder (seen nvm disk s i)) q o)
+-- a store in order by other names of its state and settings
+pub ordered : {nvm : NvmMeaning} {disk : DiskMeaning} {s t : State} {l k : Transaction} → s ≡ t → l ≡ k → ∥ InOrder (seen nvm disk s l) ∥₁ → InOrder (seen nvm disk t k)
+ordered {nvm = nvm} {disk = disk} {s = s} {t = t} {l = l} {k = k} p q o =
+    subst (λ (i : State). InOrder (seen nvm disk i k)) p (subst (λ (i : Transaction). InOrder (seen nvm disk s i)) q (in_order (seen nvm disk s l) o))

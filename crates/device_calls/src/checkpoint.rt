@@ -1,9 +1,9 @@
 //! Checkpoint and close.
 ghost use Rattle.calls.specs.declared.call.Call.TheVariants.{Checkpoint, Close};
-ghost use Rattle.order.specs.Order.{InOrder, kind_of};
-ghost use Rattle.settings.specs.Puts.{list_of};
-ghost use Rattle.calling.specs.Seen.{seen, done_answer, blocks_answer};
+ghost use Rattle.order.specs.Order.{kind_of};
+ghost use Rattle.calling.specs.Seen.{done_answer, blocks_answer};
 ghost use Rattle.engine.specs.Called.{Called};
+ghost use Rattle.engine.specs.Machine.{machine};
 
 use calling::checkpoint::checkpoint_call;
 use calls::call::Call;
@@ -18,10 +18,7 @@ use refusal::reason::Refusal;
 pub fn checkpoint<N: Nvm, D: Disk, K: RecordKind>(
     engine: &mut Engine<N, D, K>,
 ) -> Result<usize, Refusal>
-    ensures { InOrder (seen (N.Nvm.meaning engine.old.nvm) (D.Disk.meaning engine.old.disk) engine.old.state (list_of engine.old.settings)) → Called (kind_of K.RecordKind.unit K.RecordKind.reads)
-        (seen (N.Nvm.meaning engine.old.nvm) (D.Disk.meaning engine.old.disk) engine.old.state (list_of engine.old.settings))
-        Checkpoint (blocks_answer result)
-        (seen (N.Nvm.meaning engine.new.nvm) (D.Disk.meaning engine.new.disk) engine.new.state (list_of engine.new.settings)) }
+    ensures { Called (kind_of K.RecordKind.unit K.RecordKind.reads) (machine engine.old) Checkpoint (blocks_answer result) (machine engine.new) }
 {
     engine.admit(&Call::Checkpoint)?;
     checkpoint_call::<K, N, D>(
@@ -34,10 +31,7 @@ pub fn checkpoint<N: Nvm, D: Disk, K: RecordKind>(
 
 /// Checkpoints and unmounts the store.
 pub fn close<N: Nvm, D: Disk, K: RecordKind>(engine: &mut Engine<N, D, K>) -> Result<(), Refusal>
-    ensures { InOrder (seen (N.Nvm.meaning engine.old.nvm) (D.Disk.meaning engine.old.disk) engine.old.state (list_of engine.old.settings)) → Called (kind_of K.RecordKind.unit K.RecordKind.reads)
-        (seen (N.Nvm.meaning engine.old.nvm) (D.Disk.meaning engine.old.disk) engine.old.state (list_of engine.old.settings))
-        Close (done_answer result)
-        (seen (N.Nvm.meaning engine.new.nvm) (D.Disk.meaning engine.new.disk) engine.new.state (list_of engine.new.settings)) }
+    ensures { Called (kind_of K.RecordKind.unit K.RecordKind.reads) (machine engine.old) Close (done_answer result) (machine engine.new) }
 {
     engine.admit(&Call::Close)?;
     checkpoint_call::<K, N, D>(

@@ -1,9 +1,9 @@
 //! Commit.
 ghost use Rattle.calls.specs.declared.call.Call.TheVariants.{Commit};
-ghost use Rattle.order.specs.Order.{InOrder, kind_of};
-ghost use Rattle.settings.specs.Puts.{list_of};
-ghost use Rattle.calling.specs.Seen.{seen, used_answer};
+ghost use Rattle.order.specs.Order.{kind_of};
+ghost use Rattle.calling.specs.Seen.{used_answer};
 ghost use Rattle.engine.specs.Called.{Called};
+ghost use Rattle.engine.specs.Machine.{machine};
 
 use calls::call::Call;
 use calls::state::State;
@@ -18,10 +18,7 @@ use refusal::reason::Refusal;
 pub fn commit<N: Nvm, D: Disk, K: RecordKind>(
     engine: &mut Engine<N, D, K>,
 ) -> Result<usize, Refusal>
-    ensures { InOrder (seen (N.Nvm.meaning engine.old.nvm) (D.Disk.meaning engine.old.disk) engine.old.state (list_of engine.old.settings)) → Called (kind_of K.RecordKind.unit K.RecordKind.reads)
-        (seen (N.Nvm.meaning engine.old.nvm) (D.Disk.meaning engine.old.disk) engine.old.state (list_of engine.old.settings))
-        Commit (used_answer result)
-        (seen (N.Nvm.meaning engine.new.nvm) (D.Disk.meaning engine.new.disk) engine.new.state (list_of engine.new.settings)) }
+    ensures { Called (kind_of K.RecordKind.unit K.RecordKind.reads) (machine engine.old) Commit (used_answer result) (machine engine.new) }
 {
     engine.admit(&Call::Commit)?;
     let used = commit_call::<K, N, D>(&mut engine.nvm, &engine.disk, engine.settings.as_slice())?;

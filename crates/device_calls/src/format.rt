@@ -1,9 +1,9 @@
 //! Format.
 ghost use Rattle.calls.specs.declared.call.Call.TheVariants.{Format};
 ghost use Rattle.order.specs.Order.{kind_of};
-ghost use Rattle.settings.specs.Puts.{list_of};
-ghost use Rattle.calling.specs.Seen.{seen, done_answer};
+ghost use Rattle.calling.specs.Seen.{done_answer};
 ghost use Rattle.engine.specs.Called.{Called};
+ghost use Rattle.engine.specs.Machine.{machine};
 
 use calling::format::format_call;
 use calls::call::Call;
@@ -15,10 +15,7 @@ use refusal::reason::Refusal;
 
 /// Formats the devices of an unmounted store.
 pub fn format<N: Nvm, D: Disk, K: RecordKind>(engine: &mut Engine<N, D, K>) -> Result<(), Refusal>
-    ensures { Called (kind_of K.RecordKind.unit K.RecordKind.reads)
-        (seen (N.Nvm.meaning engine.old.nvm) (D.Disk.meaning engine.old.disk) engine.old.state (list_of engine.old.settings))
-        Format (done_answer result)
-        (seen (N.Nvm.meaning engine.new.nvm) (D.Disk.meaning engine.new.disk) engine.new.state (list_of engine.new.settings)) }
+    ensures { Called (kind_of K.RecordKind.unit K.RecordKind.reads) (machine engine.old) Format (done_answer result) (machine engine.new) }
 {
     engine.admit(&Call::Format)?;
     format_call::<K, N, D>(&mut engine.nvm, &mut engine.disk)?;

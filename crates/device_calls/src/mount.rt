@@ -1,9 +1,9 @@
 //! Mount.
 ghost use Rattle.calls.specs.declared.call.Call.TheVariants.{Mount};
 ghost use Rattle.order.specs.Order.{kind_of};
-ghost use Rattle.settings.specs.Puts.{list_of};
-ghost use Rattle.calling.specs.Seen.{seen, blocks_answer};
+ghost use Rattle.calling.specs.Seen.{blocks_answer};
 ghost use Rattle.engine.specs.Called.{Called};
+ghost use Rattle.engine.specs.Machine.{machine};
 
 use calls::call::Call;
 use calls::state::State;
@@ -16,10 +16,7 @@ use refusal::reason::Refusal;
 
 /// Mounts the store: settles everything, looks at the contents, and empties the ring. Answers the number of blocks written.
 pub fn mount<N: Nvm, D: Disk, K: RecordKind>(engine: &mut Engine<N, D, K>) -> Result<usize, Refusal>
-    ensures { Called (kind_of K.RecordKind.unit K.RecordKind.reads)
-        (seen (N.Nvm.meaning engine.old.nvm) (D.Disk.meaning engine.old.disk) engine.old.state (list_of engine.old.settings))
-        Mount (blocks_answer result)
-        (seen (N.Nvm.meaning engine.new.nvm) (D.Disk.meaning engine.new.disk) engine.new.state (list_of engine.new.settings)) }
+    ensures { Called (kind_of K.RecordKind.unit K.RecordKind.reads) (machine engine.old) Mount (blocks_answer result) (machine engine.new) }
 {
     engine.admit(&Call::Mount)?;
     let blocks = mount_call::<K, N, D>(

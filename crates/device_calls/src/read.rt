@@ -1,9 +1,8 @@
 //! Read.
 ghost use Rattle.calls.specs.declared.call.Call.TheVariants.{Read};
-ghost use Rattle.order.specs.Order.{InOrder, kind_of};
-ghost use Rattle.settings.specs.Puts.{list_of};
-ghost use Rattle.calling.specs.Seen.{seen};
+ghost use Rattle.order.specs.Order.{kind_of};
 ghost use Rattle.engine.specs.Called.{Called};
+ghost use Rattle.engine.specs.Machine.{machine};
 ghost use Rattle.device_calls.specs.Answers.{read_answer};
 
 use calling::read::read_call;
@@ -20,10 +19,7 @@ pub fn read<N: Nvm, D: Disk, K: RecordKind>(
     engine: &mut Engine<N, D, K>,
     number: u64,
 ) -> Result<Option<K::Record>, Refusal>
-    ensures { InOrder (seen (N.Nvm.meaning engine.old.nvm) (D.Disk.meaning engine.old.disk) engine.old.state (list_of engine.old.settings)) → Called (kind_of K.RecordKind.unit K.RecordKind.reads)
-        (seen (N.Nvm.meaning engine.old.nvm) (D.Disk.meaning engine.old.disk) engine.old.state (list_of engine.old.settings))
-        (Read number) (read_answer result)
-        (seen (N.Nvm.meaning engine.new.nvm) (D.Disk.meaning engine.new.disk) engine.new.state (list_of engine.new.settings)) }
+    ensures { Called (kind_of K.RecordKind.unit K.RecordKind.reads) (machine engine.old) (Read number) (read_answer result) (machine engine.new) }
 {
     engine.admit(&Call::Read(number))?;
     let own = engine.settings.unit_of(number);

@@ -1,7 +1,6 @@
 //! Restart.
 ghost use Rattle.calls.specs.Steps.{MachineRestarted};
-ghost use Rattle.settings.specs.Puts.{list_of};
-ghost use Rattle.calling.specs.Seen.{seen};
+ghost use Rattle.engine.specs.Machine.{machine};
 
 use calls::state::State;
 use device::disk::Disk;
@@ -13,9 +12,7 @@ use promise::request::Return;
 /// Power returns: the store ends, and its two devices, each asked to come back its own way, are a new unmounted one, which takes over
 /// its memory.
 pub fn restart<N: Nvm, D: Disk, K: RecordKind>(engine: &mut Engine<N, D, K>, back: &Return)
-    ensures restarted { MachineRestarted
-        (seen (N.Nvm.meaning engine.old.nvm) (D.Disk.meaning engine.old.disk) engine.old.state (list_of engine.old.settings))
-        (seen (N.Nvm.meaning engine.new.nvm) (D.Disk.meaning engine.new.disk) engine.new.state (list_of engine.new.settings)) }
+    ensures restarted { MachineRestarted (machine engine.old) (machine engine.new) }
     ensures nvm { N.Nvm.comes engine.old.nvm back.now.nvm back.now.nvm_acts engine.new.nvm }
     ensures disk { D.Disk.comes engine.old.disk back.now.disk back.now.disk_acts engine.new.disk }
 {

@@ -1,7 +1,8 @@
 -- Steps of calls that make no device act. Assumes nothing.
-use Rattle.std.proofs.Common.{◌≡◌, ℕ, Bool, true, false, List, [], IsErrAnd, Some, None, Ok, Err, Option, Result, sym, refl, ap, ◌∙◌, subst, arith}
+use Rattle.std.proofs.Common.{◌≡◌, ℕ, ◌*◌, ◌≤◌, Bool, true, false, List, [], IsErrAnd, Some, None, Ok, Err, Option, Result, sym, refl, ap, ◌∙◌, subst, arith}
 use Rattle.refusal.specs.declared.reason.Refusal.{Refusal}
 use Rattle.refusal.specs.declared.reason.Refusal.TheVariants.{Dark}
+use Rattle.device.specs.Pieces.{is_unsettled}
 use Rattle.crash.specs.Pair.{is_dark}
 use Rattle.crash.specs.Runs.{done}
 use Rattle.ringlaws.specs.TxnInfo.{Transaction}
@@ -11,6 +12,7 @@ use Rattle.calls.specs.declared.call.Call.{Call}
 use Rattle.calls.specs.declared.call.Call.TheVariants.{Format, Mount, Begin, Set, Clear, Read, Commit, Abandon, Checkpoint, Close}
 use Rattle.calls.specs.declared.answer.Answer.{Answer}
 use Rattle.calls.specs.declared.answer.Answer.TheVariants.{Refused, Done}
+use Rattle.calls.specs.Table.{zero_unit}
 use Rattle.calls.specs.Judge.{judge}
 use Rattle.calls.specs.Plans.{Machine, Kind, blocks_of, admitted, plan_by, set_by, set_plan}
 use Rattle.calls.specs.Steps.{Went, Step, was_dark, went}
@@ -19,7 +21,9 @@ use Rattle.order.proofs.Settings.{no_settings}
 use Rattle.order.proofs.Kept.{calls_keep_order}
 use Rattle.settings.specs.Puts.{Puts}
 use Rattle.calling.specs.Seen.{done_answer}
+use Rattle.engine.specs.declared.engine.Engine.{Engine}
 use Rattle.engine.specs.Called.{admission, Called}
+use Rattle.engine.specs.Machine.{machine}
 
 -- a call without its record
 abbrev pub plain : {R : Type 0} → Call R → Call (Unit {0})
@@ -67,6 +71,18 @@ judged_plain Open Abandon = refl
 judged_plain Open Checkpoint = refl
 judged_plain Open Close = refl
 
+-- the devices of an engine have nothing to settle beyond their sizes
+pub ends : {N D K R : Type 0} {nvm : _} {disk : _} {kind : _} (e : Engine N D K R nvm disk kind)
+    → ((s : N) (w : ℕ) → 32 * (nvm.meaning s).size ≤ w → is_unsettled ((nvm.meaning s).piece w) ≡ false)
+    → ((s : D) (i : ℕ) → 8 * (disk.meaning s).size ≤ i → is_unsettled ((disk.meaning s).piece i) ≡ false) → EndsThere (machine e)
+ends e nvm disk = record { nvm = nvm e.nvm; disk = disk e.disk }
+
+-- a call that was let through
+pub passed : {d : Bool} {j : Option Refusal} → Ok tt ≡ admission d j → (d ≡ false) × (j ≡ None)
+passed {d = true} h = let z : ◌≡◌ {A = ℕ} 0 1 = cc in absurd (omega arith)
+passed {d = false} {j = None} h = (refl, refl)
+passed {d = false} {j = Some e} h = let z : ◌≡◌ {A = ℕ} 0 1 = cc in absurd (omega arith)
+
 -- a refusal that is handed on is the same answer, however the call's other answers are told
 pub told : {R V : Type 0} {kind : Kind R} {m n : Machine} {call : Call R} (answer : Result V Refusal → Answer R) → ((x : Refusal) → answer (Err x) ≡ Refused x)
     → (e : Refusal) (r : Result V Refusal) → IsErrAnd r (λ y. y ≡ e) → Called kind m call (Refused e) n → Called kind m call (answer r) n
@@ -84,17 +100,11 @@ module _ {R : Type 0} (kind : Kind R) (units : WritesUnits kind) (m : Machine) (
   pub called : (a : Answer R) (n : Machine) → Step kind m call a n → Called kind m call a n
   called a n s = record { step = s; order = λ o. calls_keep_order kind units m n call a o ends s }
 
-  -- it was let through
-  pub passed : (d : Bool) (j : Option Refusal) → admission d j ≡ Ok tt → (d ≡ false) × (j ≡ None)
-  passed true j h = let z : ◌≡◌ {A = ℕ} 0 1 = cc in absurd (omega arith)
-  passed false None h = (refl, refl)
-  passed false (Some e) h = let z : ◌≡◌ {A = ℕ} 0 1 = cc in absurd (omega arith)
-
   -- the call goes by its plan
   pub goes : Ok tt ≡ admission (is_dark m.devices) (judge m.state (plain call)) → (a : Answer R) (n : Machine)
       → (is_dark m.devices ≡ false → Went (admitted kind m call) m a n) → Called kind m call a n
   goes h a n w =
-      let p = passed (is_dark m.devices) (judge m.state (plain call)) (sym h) in
+      let p = passed h in
       called a n (went (subst (λ o. Went (plan_by kind m o call) m a n) (sym p.1 ∙ judged_plain m.state call) (w p.0)))
 
   -- the call is refused, in the dark or by the state
@@ -125,6 +135,25 @@ module _ {R : Type 0} (kind : Kind R) (m : Machine) (r : ℕ) (u : List ℕ) (af
   pub puts : (B : ℕ) (w : List ℕ) (x : Result (Unit {0}) Refusal) → B ≡ blocks_of m → w ≡ u → Puts B m.list r w x after → Went (set_plan kind m r u) m (done_answer x) set_to
   puts B w x size unit h =
       by_plan x (subst (λ v. Puts (blocks_of m) m.list r v x after) unit (subst (λ b. Puts b m.list r w x after) size h))
+
+-- the calls that were let through, by their plans
+module _ {R : Type 0} (kind : Kind R) (units : WritesUnits kind) (m : Machine) (ends : EndsThere m) where
+  abbrev at : State → Transaction → Machine
+  at s t = record { devices = m.devices; state = s; list = t }
+
+  pub begun : Ok tt ≡ admission (is_dark m.devices) (judge {R = Unit {0}} m.state Begin) → Called kind m Begin Done (at Open m.list)
+  begun h = goes kind units m ends Begin h _ _ (λ lit. record { before = lit; says = refl; acts = done; state = refl; list = refl })
+
+  pub abandoned : Ok tt ≡ admission (is_dark m.devices) (judge {R = Unit {0}} m.state Abandon) → (after : Transaction) → after ≡ [] → Called kind m Abandon Done (at Idle after)
+  abandoned h after none = goes kind units m ends Abandon h _ _ (λ lit. record { before = lit; says = refl; acts = done; state = refl; list = none })
+
+  pub was_set : (r : ℕ) (v : R) → Ok tt ≡ admission (is_dark m.devices) (judge {R = Unit {0}} m.state (Set r tt)) → (B : ℕ) (u : List ℕ) (x : Result (Unit {0}) Refusal) (after : Transaction)
+      → B ≡ blocks_of m → u ≡ kind.unit v → Puts B m.list r u x after → Called kind m (Set r v) (done_answer x) (at m.state after)
+  was_set r v h B u x after size unit p = goes kind units m ends (Set r v) h _ _ (λ lit. puts kind m r (kind.unit v) after lit B u x size unit p)
+
+  pub was_cleared : (r : ℕ) → Ok tt ≡ admission (is_dark m.devices) (judge {R = Unit {0}} m.state (Clear r)) → (B : ℕ) (x : Result (Unit {0}) Refusal) (after : Transaction)
+      → B ≡ blocks_of m → Puts B m.list r zero_unit x after → Called kind m (Clear r) (done_answer x) (at m.state after)
+  was_cleared r h B x after size p = goes kind units m ends (Clear r) h _ _ (λ lit. puts kind m r zero_unit after lit B zero_unit x size refl p)
 
 -- a store that was just made is in order
 pub fresh : (m : Machine) → m.state ≡ Unmounted → m.list ≡ [] → InOrder m

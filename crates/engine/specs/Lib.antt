@@ -1,1 +1,2 @@
 pub mod Called
+pub mod Machine

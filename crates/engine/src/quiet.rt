@@ -4,9 +4,9 @@ ghost use Rattle.crash.specs.Pair.{both, is_dark};
 ghost use Rattle.calls.specs.declared.call.Call.TheVariants.{Begin, Set, Clear, Abandon};
 ghost use Rattle.calls.specs.Judge.{judge as judgement};
 ghost use Rattle.order.specs.Order.{kind_of};
-ghost use Rattle.settings.specs.Puts.{list_of};
-ghost use Rattle.calling.specs.Seen.{seen, done_answer};
+ghost use Rattle.calling.specs.Seen.{done_answer};
 ghost use Rattle.engine.specs.Called.{admission, Called};
+ghost use Rattle.engine.specs.Machine.{machine};
 
 use crate::engine::Engine;
 use crate::judge::judge;
@@ -33,10 +33,7 @@ impl<N: Nvm, D: Disk, K: RecordKind> Engine<N, D, K> {
 
     /// Opens a transaction.
     pub fn begin(&mut self) -> Result<(), Refusal>
-        ensures { Called (kind_of K.RecordKind.unit K.RecordKind.reads)
-            (seen (N.Nvm.meaning self.old.nvm) (D.Disk.meaning self.old.disk) self.old.state (list_of self.old.settings))
-            Begin (done_answer result)
-            (seen (N.Nvm.meaning self.new.nvm) (D.Disk.meaning self.new.disk) self.new.state (list_of self.new.settings)) }
+        ensures { Called (kind_of K.RecordKind.unit K.RecordKind.reads) (machine self.old) Begin (done_answer result) (machine self.new) }
     {
         self.admit(&Call::Begin)?;
         self.state = State::Open;
@@ -45,10 +42,7 @@ impl<N: Nvm, D: Disk, K: RecordKind> Engine<N, D, K> {
 
     /// Sets a record in the open transaction.
     pub fn set(&mut self, number: u64, value: &K::Record) -> Result<(), Refusal>
-        ensures { Called (kind_of K.RecordKind.unit K.RecordKind.reads)
-            (seen (N.Nvm.meaning self.old.nvm) (D.Disk.meaning self.old.disk) self.old.state (list_of self.old.settings))
-            (Set number value.now) (done_answer result)
-            (seen (N.Nvm.meaning self.new.nvm) (D.Disk.meaning self.new.disk) self.new.state (list_of self.new.settings)) }
+        ensures { Called (kind_of K.RecordKind.unit K.RecordKind.reads) (machine self.old) (Set number value.now) (done_answer result) (machine self.new) }
     {
         self.admit(&Call::Set(number, ()))?;
         let mut unit = [0; 32];
@@ -58,10 +52,7 @@ impl<N: Nvm, D: Disk, K: RecordKind> Engine<N, D, K> {
 
     /// Sets a record to 32 zero words, which make it absent.
     pub fn clear(&mut self, number: u64) -> Result<(), Refusal>
-        ensures { Called (kind_of K.RecordKind.unit K.RecordKind.reads)
-            (seen (N.Nvm.meaning self.old.nvm) (D.Disk.meaning self.old.disk) self.old.state (list_of self.old.settings))
-            (Clear number) (done_answer result)
-            (seen (N.Nvm.meaning self.new.nvm) (D.Disk.meaning self.new.disk) self.new.state (list_of self.new.settings)) }
+        ensures { Called (kind_of K.RecordKind.unit K.RecordKind.reads) (machine self.old) (Clear number) (done_answer result) (machine self.new) }
     {
         self.admit(&Call::Clear(number))?;
         let unit = [0; 32];
@@ -70,10 +61,7 @@ impl<N: Nvm, D: Disk, K: RecordKind> Engine<N, D, K> {
 
     /// Drops the open transaction.
     pub fn abandon(&mut self) -> Result<(), Refusal>
-        ensures { Called (kind_of K.RecordKind.unit K.RecordKind.reads)
-            (seen (N.Nvm.meaning self.old.nvm) (D.Disk.meaning self.old.disk) self.old.state (list_of self.old.settings))
-            Abandon (done_answer result)
-            (seen (N.Nvm.meaning self.new.nvm) (D.Disk.meaning self.new.disk) self.new.state (list_of self.new.settings)) }
+        ensures { Called (kind_of K.RecordKind.unit K.RecordKind.reads) (machine self.old) Abandon (done_answer result) (machine self.new) }
     {
         self.admit(&Call::Abandon)?;
         self.settings.clear();

@@ -10,7 +10,7 @@ ghost use Rattle.fresh.specs.Fresh.{RunsFresh};
 
 use disks::patient::PatientDisk;
 use joined::kind::JoinedKind;
-use journal::store::Store;
+use store::store::Store;
 use nvms::devices::PatientNvm;
 use refusal::reason::Refusal;
 use session::script::run_script;

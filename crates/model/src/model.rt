@@ -86,7 +86,7 @@ fn by_state(model: &Model, ask: Ask) -> Option<u32> {
         (Ask::Begin | Ask::Close, State::Open) => Some(22),
         (Ask::Set(_, _) | Ask::Clear(_) | Ask::Commit | Ask::Abandon, State::Idle) => Some(23),
         (Ask::Set(number, _) | Ask::Clear(number) | Ask::Read(number), _) => {
-            if number >= 32 { Some(31) } else { None }
+            (number >= 32).then_some(31)
         }
         _ => None,
     }
@@ -94,21 +94,18 @@ fn by_state(model: &Model, ask: Ask) -> Option<u32> {
 
 /// The value that a record is set to in the open transaction, if it is set there.
 fn own(model: &Model, number: u64) -> Option<u64> {
-    for (other, value) in model.open.iter() {
-        if *other == number {
-            return Some(*value);
-        }
-    }
-    None
+    model
+        .open
+        .iter()
+        .find(|setting| setting.0 == number)
+        .map(|setting| setting.1)
 }
 
 /// Sets a record.
 fn sets(model: &mut Model, number: u64, value: u64) -> Result<Reply, Fail> {
-    for setting in model.open.iter_mut() {
-        if setting.0 == number {
-            setting.1 = value;
-            return Ok(Reply::Done);
-        }
+    if let Some(setting) = model.open.iter_mut().find(|setting| setting.0 == number) {
+        setting.1 = value;
+        return Ok(Reply::Done);
     }
     if model.open.len() >= 30 {
         return Ok(Reply::No(32));
@@ -128,10 +125,11 @@ fn commits(heap: Global, model: &mut Model) -> Result<Reply, Fail> {
         if spend(&mut model.nvm_acts, acts) < acts {
             return Ok(Reply::No(5));
         }
-        let mut news = Vec::new(heap);
-        for world in model.worlds.iter() {
-            news.push(world.laid(model.open.as_slice()))?;
-        }
+        let news = model
+            .worlds
+            .iter()
+            .map(|world| world.laid(model.open.as_slice()))
+            .collect(heap)?;
         if !change(heap, model, &news)? {
             model.doubts = model.doubts.saturating_add(1);
             return Ok(Reply::No(5));
@@ -185,17 +183,11 @@ fn empties(heap: Global, model: &mut Model, reply: Reply) -> Result<(), Fail> {
 }
 
 /// A read of the table leaves the worlds that have what it answered.
-fn reads(heap: Global, model: &mut Model, number: u64, reply: Reply) -> Result<(), Fail> {
-    let mut left = Vec::new(heap);
-    for world in model.worlds.iter() {
-        if world.reading(number) == reply {
-            left.push(*world)?;
-        }
-    }
-    if left.is_empty() {
+fn reads(model: &mut Model, number: u64, reply: Reply) -> Result<(), Fail> {
+    model.worlds.retain(|world| world.reading(number) == reply);
+    if model.worlds.is_empty() {
         return Err(Fail::new("no world allows the answer of a read"));
     }
-    model.worlds = left;
     Ok(())
 }
 
@@ -233,7 +225,7 @@ fn performed(heap: Global, model: &mut Model, ask: Ask, reply: Reply) -> Result<
         Ask::Clear(number) => same(reply, sets(model, number, 0)?)?,
         Ask::Read(number) => match own(model, number) {
             Some(value) => same(reply, shown(value))?,
-            None => reads(heap, model, number, reply)?,
+            None => reads(model, number, reply)?,
         },
         Ask::Commit => same(reply, commits(heap, model)?)?,
         Ask::Abandon => {

@@ -20,8 +20,7 @@ pub const UNMARKED: World = World {
 /// After a format every record is absent.
 pub const BLANK: World = World {
     marked: true,
-    values: [0; 32],
-    homes: [false; 2],
+    ..UNMARKED
 };
 
 impl World {
@@ -33,9 +32,8 @@ impl World {
     /// The same with an empty ring.
     pub fn emptied(&self) -> World {
         World {
-            marked: self.marked,
-            values: self.values,
             homes: [false; 2],
+            ..*self
         }
     }
 
@@ -66,10 +64,8 @@ pub fn shown(value: u64) -> Reply {
 
 /// Adds a possibility, if it is not there yet.
 pub fn add(worlds: &mut Vec<World>, world: World) -> Result<(), AllocFailed<World>> {
-    for other in worlds.iter() {
-        if *other == world {
-            return Ok(());
-        }
+    if worlds.contains(&world) {
+        return Ok(());
     }
     worlds.push(world)
 }

@@ -6,7 +6,7 @@ use device::nvm::Nvm;
 use disks::patient::PatientDisk;
 use disks::prompt::PromptDisk;
 use joined::kind::JoinedKind;
-use journal::store::Store;
+use store::store::Store;
 use model::model::*;
 use nvms::devices::{EightLineNvm, PatientNvm};
 use std::alloc::Global;

@@ -1,9 +1,8 @@
 //! One call, or one restart.
 ghost use Rattle.std.specs.Prelude.{◌≡◌, [], ◌∷◌};
-ghost use Rattle.order.specs.Order.{InOrder, kind_of};
-ghost use Rattle.settings.specs.Puts.{list_of};
-ghost use Rattle.calling.specs.Seen.{seen};
+ghost use Rattle.order.specs.Order.{kind_of};
 ghost use Rattle.engine.specs.Called.{Called};
+ghost use Rattle.engine.specs.Machine.{machine};
 ghost use Rattle.promise.specs.Told.{Performs};
 ghost use Rattle.running.specs.Asked.{AsAsked};
 
@@ -27,10 +26,7 @@ pub fn perform<N: Nvm, D: Disk, K: RecordKind>(
     engine: &mut Engine<N, D, K>,
     call: &Call<K::Record>,
 ) -> Answer<K::Record>
-    ensures { InOrder (seen (N.Nvm.meaning engine.old.nvm) (D.Disk.meaning engine.old.disk) engine.old.state (list_of engine.old.settings)) → Called (kind_of K.RecordKind.unit K.RecordKind.reads)
-        (seen (N.Nvm.meaning engine.old.nvm) (D.Disk.meaning engine.old.disk) engine.old.state (list_of engine.old.settings))
-        call.now result
-        (seen (N.Nvm.meaning engine.new.nvm) (D.Disk.meaning engine.new.disk) engine.new.state (list_of engine.new.settings)) }
+    ensures { Called (kind_of K.RecordKind.unit K.RecordKind.reads) (machine engine.old) call.now result (machine engine.new) }
 {
     match call {
         Call::Format => done(format(engine)),
@@ -51,10 +47,7 @@ pub fn fulfil<N: Nvm, D: Disk, K: RecordKind>(
     engine: &mut Engine<N, D, K>,
     request: &Request<K::Record>,
 ) -> Answer<K::Record>
-    ensures promise { Performs (kind_of K.RecordKind.unit K.RecordKind.reads)
-        (seen (N.Nvm.meaning engine.old.nvm) (D.Disk.meaning engine.old.disk) engine.old.state (list_of engine.old.settings))
-        (request.now ∷ []) (result ∷ [])
-        (seen (N.Nvm.meaning engine.new.nvm) (D.Disk.meaning engine.new.disk) engine.new.state (list_of engine.new.settings)) }
+    ensures promise { Performs (kind_of K.RecordKind.unit K.RecordKind.reads) (machine engine.old) (request.now ∷ []) (result ∷ []) (machine engine.new) }
     ensures back { AsAsked N.Nvm.comes D.Disk.comes engine.old.nvm engine.old.disk request.now engine.new.nvm engine.new.disk }
 {
     match request {

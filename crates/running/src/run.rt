@@ -2,8 +2,7 @@
 ghost use Rattle.std.specs.Prelude.{◌≡◌, length, IfOk, MatchResult};
 ghost use Rattle.refusal.specs.declared.reason.Refusal.TheVariants.{NoMemory};
 ghost use Rattle.order.specs.Order.{kind_of};
-ghost use Rattle.settings.specs.Puts.{list_of};
-ghost use Rattle.calling.specs.Seen.{seen};
+ghost use Rattle.engine.specs.Machine.{machine};
 ghost use Rattle.promise.specs.Told.{Performs};
 
 use crate::perform::fulfil;
@@ -24,10 +23,7 @@ pub fn run<N: Nvm, D: Disk, K: RecordKind>(
     requests: &[Request<K::Record>],
 ) -> Result<Vec<Answer<K::Record>>, Refusal>
     ensures each { IfOk result (λ answers. length answers.items ≡ length requests.now) }
-    ensures promise { MatchResult result (λ answers. Performs (kind_of K.RecordKind.unit K.RecordKind.reads)
-        (seen (N.Nvm.meaning engine.old.nvm) (D.Disk.meaning engine.old.disk) engine.old.state (list_of engine.old.settings))
-        requests.now answers.items
-        (seen (N.Nvm.meaning engine.new.nvm) (D.Disk.meaning engine.new.disk) engine.new.state (list_of engine.new.settings)))
+    ensures promise { MatchResult result (λ answers. Performs (kind_of K.RecordKind.unit K.RecordKind.reads) (machine engine.old) requests.now answers.items (machine engine.new))
         (λ e. (e ≡ NoMemory) × (engine.new ≡ engine.old)) }
 {
     let Ok(mut answers) = Vec::with_capacity(heap, requests.len()) else {

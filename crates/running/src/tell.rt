@@ -6,6 +6,8 @@ ghost use Rattle.device_calls.specs.Answers.{read_answer};
 use calls::answer::Answer;
 use refusal::reason::Refusal;
 
+// Kept: no From for Answer, since a number is either the blocks written or the places used, and only the call says which.
+
 /// The answer of a call that is done or refused.
 pub fn done<R>(res: Result<(), Refusal>) -> Answer<R>
     ensures { result ≡ done_answer res }

@@ -15,7 +15,7 @@ use Rattle.book.specs.Commits.{is_accepted}
 use Rattle.commands.specs.Commands.{Asked, format, mount, begin, commit, abandon, checkpoint, close, clear, show, set, restart}
 use Rattle.printing.specs.declared.detail.Detail.{Detail}
 use Rattle.printing.specs.declared.detail.Detail.TheVariants as detail
-use Rattle.journal.specs.Returned.{hands_back}
+use Rattle.store.specs.Returned.{hands_back}
 
 -- the kind of a script's records: tiles and masts
 abbrev pub tiles_and_masts : Kind Joined

@@ -14,11 +14,11 @@ use device::disk::Disk;
 use device::nvm::Nvm;
 use joined::kind::JoinedKind;
 use joined::record::Joined;
-use journal::store::Store;
 use printing::complaint::Complaint;
 use printing::detail::Detail;
 use printing::standing::Standing;
 use refusal::reason::Refusal;
+use store::store::Store;
 
 /// What a line says of an answer.
 pub fn said_of(answer: Answer<Joined>) -> Result<Detail, Complaint>

@@ -10,10 +10,10 @@ use device::disk::Disk;
 use device::nvm::Nvm;
 use joined::kind::JoinedKind;
 use joined::record::Joined;
-use journal::store::Store;
 use promise::request::Request;
 use refusal::reason::Refusal;
 use std::alloc::Global;
+use store::store::Store;
 
 /// A store that a script runs on, and whether the script holds a ticket of it.
 #[derive(Drop)]

@@ -1,1 +1,4 @@
-pub mod Called
+pub mod Returned
+pub mod Tickets
+pub mod OneByOne
+pub mod Machine

@@ -2,8 +2,6 @@
 //! devices and any record kind.
 #![tactic(auto)]
 
-pub mod inner;
-pub mod judge;
 pub mod store;
 pub mod store_calls;
 pub mod ticket;

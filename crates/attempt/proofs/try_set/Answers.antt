@@ -1,4 +1,4 @@
-use Rattle.store.proofs.Admitted.{carried}
+use Rattle.engine.proofs.Admitted.{carried}
 use Rattle.attempt.specs.Tried.{not_begun, begun}
 use Rattle.attempt.proofs.try_set.Goals as goal
 

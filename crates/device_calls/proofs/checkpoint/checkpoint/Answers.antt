@@ -1,28 +1,22 @@
-use Rattle.std.proofs.Common.{sym, refl}
+use Rattle.std.proofs.Common.{refl}
 use Rattle.calls.specs.declared.call.Call.TheVariants.{Checkpoint}
-use Rattle.crash.specs.Pair.{is_dark}
-use Rattle.calls.specs.Judge.{judge}
-use Rattle.calls.specs.Plans.{Machine}
-use Rattle.order.specs.Order.{EndsThere, kind_of}
-use Rattle.settings.specs.Puts.{list_of}
-use Rattle.calling.specs.Seen.{seen, blocks_answer}
-use Rattle.engine.proofs.Admitted.{passed, called, barred, told}
-use Rattle.device_calls.proofs.Reached.{checkpoint_mounted}
+use Rattle.order.specs.Order.{kind_of}
+use Rattle.engine.specs.Machine.{machine}
+use Rattle.engine.proofs.Admitted.{ends, passed, barred, told}
+use Rattle.engine.proofs.Ordered.{in_order, kept}
+use Rattle.calling.specs.Seen.{blocks_answer}
+use Rattle.device_calls.proofs.Reached.{by_names, checkpoint_mounted}
 use Rattle.device_calls.proofs.checkpoint.checkpoint.Goals as goal
 
 pub returns-in_err-admit : goal.returns-in_err-admit
-returns-in_err-admit g c order =
-    let kind = kind_of g.K.RecordKind.unit g.K.RecordKind.reads in
-    let m : Machine = seen (g.N.Nvm.meaning c.args.engine.now.nvm) (g.D.Disk.meaning c.args.engine.now.disk) c.args.engine.now.state (list_of c.args.engine.now.settings) in
-    let ends : EndsThere m = record { nvm = g.met.N.Nvm.ends c.args.engine.now.nvm; disk = g.met.D.Disk.ends c.args.engine.now.disk } in
+returns-in_err-admit g c =
     told blocks_answer (λ x. refl) c.in_err-admit.field-0.0 c.from_residual.result c.from_residual.ensures.1
-    (barred kind g.met.K.RecordKind.whole m ends Checkpoint c.in_err-admit.field-0.0 c.in_err-admit.ensures)
+    (barred (kind_of g.K.RecordKind.unit g.K.RecordKind.reads) g.met.K.RecordKind.whole (machine c.args.engine.now) (ends c.args.engine.now g.met.N.Nvm.ends g.met.D.Disk.ends) Checkpoint c.in_err-admit.field-0.0 c.in_err-admit.ensures)
+
+pub invariant_of-engine : goal.invariant_of-engine
+invariant_of-engine g c =
+    record { ordered = kept (by_names (kind_of g.K.RecordKind.unit g.K.RecordKind.reads) g.met.K.RecordKind.whole (ends c.args.engine.now g.met.N.Nvm.ends g.met.D.Disk.ends) refl refl refl refl (c.checkpoint_call.ensures.checkpoint c.args.engine.now.state _ (checkpoint_mounted c.args.engine.now.state (passed c.in_ok-admit.ensures).1) (in_order _ c.args.engine.now.ordered))) c.args.engine.now.ordered }
 
 pub returns : goal.returns
-returns g c order =
-    let kind = kind_of g.K.RecordKind.unit g.K.RecordKind.reads in
-    let m : Machine = seen (g.N.Nvm.meaning c.args.engine.now.nvm) (g.D.Disk.meaning c.args.engine.now.disk) c.args.engine.now.state (list_of c.args.engine.now.settings) in
-    let ends : EndsThere m = record { nvm = g.met.N.Nvm.ends c.args.engine.now.nvm; disk = g.met.D.Disk.ends c.args.engine.now.disk } in
-    let let_through = passed kind g.met.K.RecordKind.whole m ends Checkpoint (is_dark m.devices) (judge {R = Unit {0}} m.state Checkpoint) (sym c.in_ok-admit.ensures) in
-    let is = checkpoint_mounted c.args.engine.now.state let_through.1 in
-    called kind g.met.K.RecordKind.whole m ends Checkpoint _ _ (c.checkpoint_call.ensures.checkpoint c.args.engine.now.state (list_of c.args.engine.now.settings) is order)
+returns g c =
+    by_names (kind_of g.K.RecordKind.unit g.K.RecordKind.reads) g.met.K.RecordKind.whole (ends c.args.engine.now g.met.N.Nvm.ends g.met.D.Disk.ends) refl refl refl refl (c.checkpoint_call.ensures.checkpoint c.args.engine.now.state _ (checkpoint_mounted c.args.engine.now.state (passed c.in_ok-admit.ensures).1) (in_order _ c.args.engine.now.ordered))

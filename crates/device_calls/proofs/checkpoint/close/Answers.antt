@@ -1,41 +1,31 @@
-use Rattle.std.proofs.Common.{sym, refl}
-use Rattle.calls.specs.declared.state.State.TheVariants.{Unmounted, Idle}
+use Rattle.std.proofs.Common.{refl}
 use Rattle.calls.specs.declared.call.Call.TheVariants.{Close}
-use Rattle.crash.specs.Pair.{is_dark}
-use Rattle.calls.specs.Judge.{judge}
-use Rattle.calls.specs.Plans.{Machine}
-use Rattle.order.specs.Order.{EndsThere, kind_of}
-use Rattle.settings.specs.Puts.{list_of}
-use Rattle.calling.specs.Seen.{seen, done_answer}
-use Rattle.engine.proofs.Admitted.{passed, called, barred, told}
-use Rattle.device_calls.proofs.Reached.{moved, ordered, close_idle}
+use Rattle.order.specs.Order.{kind_of}
+use Rattle.engine.specs.Machine.{machine}
+use Rattle.engine.proofs.Admitted.{ends, passed, barred, told}
+use Rattle.engine.proofs.Ordered.{kept}
+use Rattle.calling.specs.Seen.{done_answer}
+use Rattle.device_calls.proofs.Reached.{by_names, ordered, close_idle}
 use Rattle.device_calls.proofs.checkpoint.close.Goals as goal
 
 pub returns-in_err-admit : goal.returns-in_err-admit
-returns-in_err-admit g c order =
-    let kind = kind_of g.K.RecordKind.unit g.K.RecordKind.reads in
-    let m : Machine = seen (g.N.Nvm.meaning c.args.engine.now.nvm) (g.D.Disk.meaning c.args.engine.now.disk) c.args.engine.now.state (list_of c.args.engine.now.settings) in
-    let ends : EndsThere m = record { nvm = g.met.N.Nvm.ends c.args.engine.now.nvm; disk = g.met.D.Disk.ends c.args.engine.now.disk } in
+returns-in_err-admit g c =
     told done_answer (λ x. refl) c.in_err-admit.field-0.0 c.from_residual.result c.from_residual.ensures.1
-    (barred kind g.met.K.RecordKind.whole m ends Close c.in_err-admit.field-0.0 c.in_err-admit.ensures)
+    (barred (kind_of g.K.RecordKind.unit g.K.RecordKind.reads) g.met.K.RecordKind.whole (machine c.args.engine.now) (ends c.args.engine.now g.met.N.Nvm.ends g.met.D.Disk.ends) Close c.in_err-admit.field-0.0 c.in_err-admit.ensures)
 
 pub returns-in_err-checkpoint_call : goal.returns-in_err-checkpoint_call
-returns-in_err-checkpoint_call g c order =
-    let kind = kind_of g.K.RecordKind.unit g.K.RecordKind.reads in
-    let m : Machine = seen (g.N.Nvm.meaning c.args.engine.now.nvm) (g.D.Disk.meaning c.args.engine.now.disk) c.args.engine.now.state (list_of c.args.engine.now.settings) in
-    let ends : EndsThere m = record { nvm = g.met.N.Nvm.ends c.args.engine.now.nvm; disk = g.met.D.Disk.ends c.args.engine.now.disk } in
-    let let_through = passed kind g.met.K.RecordKind.whole m ends Close (is_dark m.devices) (judge {R = Unit {0}} m.state Close) (sym c.in_ok-admit.ensures) in
-    let is = close_idle c.args.engine.now.state let_through.1 in
+returns-in_err-checkpoint_call g c =
     told done_answer (λ x. refl) c.in_err-checkpoint_call.field-0.0 c.from_residual-in_err-checkpoint_call.result c.from_residual-in_err-checkpoint_call.ensures.1
-    (called kind g.met.K.RecordKind.whole m ends Close _ _ (moved kind Close _ (g.N.Nvm.meaning c.args.engine.now.nvm) (g.D.Disk.meaning c.args.engine.now.disk) _ _ c.args.engine.now.state Idle (list_of c.args.engine.now.settings) (list_of c.args.engine.now.settings) c.args.engine.now.state Idle (list_of c.args.engine.now.settings) (list_of c.args.engine.now.settings) is refl is refl
-    (c.in_err-checkpoint_call.ensures.close (list_of c.args.engine.now.settings) (ordered (g.N.Nvm.meaning c.args.engine.now.nvm) (g.D.Disk.meaning c.args.engine.now.disk) c.args.engine.now.state Idle (list_of c.args.engine.now.settings) (list_of c.args.engine.now.settings) is refl order))))
+    (by_names (kind_of g.K.RecordKind.unit g.K.RecordKind.reads) g.met.K.RecordKind.whole (ends c.args.engine.now g.met.N.Nvm.ends g.met.D.Disk.ends) (close_idle c.args.engine.now.state (passed c.in_ok-admit.ensures).1) refl (close_idle c.args.engine.now.state (passed c.in_ok-admit.ensures).1) refl (c.in_err-checkpoint_call.ensures.close _ (ordered (close_idle c.args.engine.now.state (passed c.in_ok-admit.ensures).1) refl c.args.engine.now.ordered)))
+
+pub invariant_of-engine : goal.invariant_of-engine
+invariant_of-engine g c =
+    record { ordered = kept (by_names (kind_of g.K.RecordKind.unit g.K.RecordKind.reads) g.met.K.RecordKind.whole (ends c.args.engine.now g.met.N.Nvm.ends g.met.D.Disk.ends) (close_idle c.args.engine.now.state (passed c.in_ok-admit.ensures).1) refl (close_idle c.args.engine.now.state (passed c.in_ok-admit.ensures).1) refl (c.in_err-checkpoint_call.ensures.close _ (ordered (close_idle c.args.engine.now.state (passed c.in_ok-admit.ensures).1) refl c.args.engine.now.ordered))) c.args.engine.now.ordered }
+
+pub invariant_of-engine-2 : goal.invariant_of-engine-2
+invariant_of-engine-2 g c =
+    record { ordered = kept (by_names (kind_of g.K.RecordKind.unit g.K.RecordKind.reads) g.met.K.RecordKind.whole (ends c.args.engine.now g.met.N.Nvm.ends g.met.D.Disk.ends) (close_idle c.args.engine.now.state (passed c.in_ok-admit.ensures).1) refl refl refl (c.in_ok-checkpoint_call.ensures.close _ (ordered (close_idle c.args.engine.now.state (passed c.in_ok-admit.ensures).1) refl c.args.engine.now.ordered))) c.args.engine.now.ordered }
 
 pub returns : goal.returns
-returns g c order =
-    let kind = kind_of g.K.RecordKind.unit g.K.RecordKind.reads in
-    let m : Machine = seen (g.N.Nvm.meaning c.args.engine.now.nvm) (g.D.Disk.meaning c.args.engine.now.disk) c.args.engine.now.state (list_of c.args.engine.now.settings) in
-    let ends : EndsThere m = record { nvm = g.met.N.Nvm.ends c.args.engine.now.nvm; disk = g.met.D.Disk.ends c.args.engine.now.disk } in
-    let let_through = passed kind g.met.K.RecordKind.whole m ends Close (is_dark m.devices) (judge {R = Unit {0}} m.state Close) (sym c.in_ok-admit.ensures) in
-    let is = close_idle c.args.engine.now.state let_through.1 in
-    called kind g.met.K.RecordKind.whole m ends Close _ _ (moved kind Close _ (g.N.Nvm.meaning c.args.engine.now.nvm) (g.D.Disk.meaning c.args.engine.now.disk) _ _ c.args.engine.now.state Idle (list_of c.args.engine.now.settings) (list_of c.args.engine.now.settings) Unmounted Unmounted (list_of c.args.engine.now.settings) (list_of c.args.engine.now.settings) is refl refl refl
-    (c.in_ok-checkpoint_call.ensures.close (list_of c.args.engine.now.settings) (ordered (g.N.Nvm.meaning c.args.engine.now.nvm) (g.D.Disk.meaning c.args.engine.now.disk) c.args.engine.now.state Idle (list_of c.args.engine.now.settings) (list_of c.args.engine.now.settings) is refl order)))
+returns g c =
+    by_names (kind_of g.K.RecordKind.unit g.K.RecordKind.reads) g.met.K.RecordKind.whole (ends c.args.engine.now g.met.N.Nvm.ends g.met.D.Disk.ends) (close_idle c.args.engine.now.state (passed c.in_ok-admit.ensures).1) refl refl refl (c.in_ok-checkpoint_call.ensures.close _ (ordered (close_idle c.args.engine.now.state (passed c.in_ok-admit.ensures).1) refl c.args.engine.now.ordered))

@@ -3,8 +3,7 @@ use Rattle.calls.specs.declared.answer.Answer.{Answer}
 use Rattle.calls.specs.Plans.{Machine}
 use Rattle.order.specs.Order.{kind_of}
 use Rattle.book.specs.Promise.{Lawful}
-use Rattle.settings.specs.Puts.{list_of}
-use Rattle.calling.specs.Seen.{seen}
+use Rattle.engine.specs.Machine.{machine}
 use Rattle.promise.specs.Told.{Performs}
 use Rattle.promise.proofs.Lists.{no_requests}
 use Rattle.running.proofs.Growing.{one_more, all_done}
@@ -19,7 +18,7 @@ loop-request-init g c =
       back = g.met.K.RecordKind.back;
       only = g.met.K.RecordKind.only;
     } in
-    let m : Machine = seen (g.N.Nvm.meaning c.args.engine.now.nvm) (g.D.Disk.meaning c.args.engine.now.disk) c.args.engine.now.state (list_of c.args.engine.now.settings) in
+    let m : Machine = machine c.args.engine.now in
     let made = c.in-Ok.ensures in (
       made.len,
       made.capacity,

@@ -1,7 +1,6 @@
 use Rattle.std.proofs.Common.{◌≡◌, ◌≤◌, length, take, vec_items, vec_len, vec_capacity}
 use Rattle.order.specs.Order.{kind_of}
-use Rattle.settings.specs.Puts.{list_of}
-use Rattle.calling.specs.Seen.{seen}
+use Rattle.engine.specs.Machine.{machine}
 use Rattle.promise.specs.Told.{Performs}
 use Rattle.running.proofs.run.run.Given as goal
 
@@ -10,6 +9,6 @@ abbrev pub invariant-loop-request : goal.invariant-loop-request
 invariant-loop-request g l =
     (vec_len l.answers ≡ l.request-index) × (length l.requests ≤ vec_capacity l.answers)
     × Performs (kind_of g.K.RecordKind.unit g.K.RecordKind.reads)
-    (seen (g.N.Nvm.meaning l.initial.engine.nvm) (g.D.Disk.meaning l.initial.engine.disk) l.initial.engine.state (list_of l.initial.engine.settings))
+    (machine l.initial.engine)
     (take l.request-index l.requests) (vec_items l.answers)
-    (seen (g.N.Nvm.meaning l.engine.nvm) (g.D.Disk.meaning l.engine.disk) l.engine.state (list_of l.engine.settings))
+    (machine l.engine)

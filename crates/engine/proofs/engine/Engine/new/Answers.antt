@@ -2,5 +2,5 @@ use Rattle.std.proofs.Common.{refl}
 use Rattle.engine.proofs.Admitted.{fresh}
 use Rattle.engine.proofs.engine.Engine.new.Goals as goal
 
-pub returns-in-Ok : goal.returns-in-Ok
-returns-in-Ok g c = record { made = (refl, refl, refl, c.in-Ok.ensures); order = fresh _ refl c.in-Ok.ensures }
+pub invariant_of-result : goal.invariant_of-result
+invariant_of-result g c = record { ordered = ∣ fresh _ refl c.in-Ok.ensures ∣₁ }

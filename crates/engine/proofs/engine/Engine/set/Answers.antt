@@ -1,23 +1,23 @@
 use Rattle.calls.specs.declared.call.Call.TheVariants.{Set}
 use Rattle.order.specs.Order.{kind_of}
-use Rattle.settings.specs.Puts.{list_of}
-use Rattle.calling.specs.Seen.{seen}
-use Rattle.engine.proofs.Admitted.{goes, refused, puts}
+use Rattle.engine.specs.Machine.{machine}
+use Rattle.engine.proofs.Admitted.{ends, refused, was_set}
+use Rattle.engine.proofs.Ordered.{kept}
 use Rattle.engine.proofs.engine.Engine.set.Goals as goal
 
 pub returns-in_err-admit : goal.returns-in_err-admit
 returns-in_err-admit g c =
-    refused (kind_of g.K.RecordKind.unit g.K.RecordKind.reads) g.met.K.RecordKind.whole
-    (seen (g.N.Nvm.meaning c.args.self.now.nvm) (g.D.Disk.meaning c.args.self.now.disk) c.args.self.now.state (list_of c.args.self.now.settings))
-    (record { nvm = g.met.N.Nvm.ends c.args.self.now.nvm; disk = g.met.D.Disk.ends c.args.self.now.disk })
+    refused (kind_of g.K.RecordKind.unit g.K.RecordKind.reads) g.met.K.RecordKind.whole (machine c.args.self.now) (ends c.args.self.now g.met.N.Nvm.ends g.met.D.Disk.ends)
     (Set c.args.number c.args.value.now) c.in_err-admit.field-0.0 c.in_err-admit.ensures c.from_residual.result c.from_residual.ensures.1
+
+pub invariant_of-self : goal.invariant_of-self
+invariant_of-self g c =
+    record {
+      ordered = kept (was_set (kind_of g.K.RecordKind.unit g.K.RecordKind.reads) g.met.K.RecordKind.whole (machine c.args.self.now) (ends c.args.self.now g.met.N.Nvm.ends g.met.D.Disk.ends)
+          c.args.number c.args.value.now c.in_ok-admit.ensures _ _ _ _ c.blocks-2.ensures c.encode.ensures c.put.ensures) c.args.self.now.ordered;
+    }
 
 pub returns : goal.returns
 returns g c =
-    goes (kind_of g.K.RecordKind.unit g.K.RecordKind.reads) g.met.K.RecordKind.whole
-    (seen (g.N.Nvm.meaning c.args.self.now.nvm) (g.D.Disk.meaning c.args.self.now.disk) c.args.self.now.state (list_of c.args.self.now.settings))
-    (record { nvm = g.met.N.Nvm.ends c.args.self.now.nvm; disk = g.met.D.Disk.ends c.args.self.now.disk })
-    (Set c.args.number c.args.value.now) c.in_ok-admit.ensures _ _
-    (λ lit. puts (kind_of g.K.RecordKind.unit g.K.RecordKind.reads)
-    (seen (g.N.Nvm.meaning c.args.self.now.nvm) (g.D.Disk.meaning c.args.self.now.disk) c.args.self.now.state (list_of c.args.self.now.settings))
-    c.args.number (g.K.RecordKind.unit c.args.value.now) (list_of c.put.new.self) lit c.blocks-2.result c.encode.new.place c.put.result c.blocks-2.ensures c.encode.ensures c.put.ensures)
+    was_set (kind_of g.K.RecordKind.unit g.K.RecordKind.reads) g.met.K.RecordKind.whole (machine c.args.self.now) (ends c.args.self.now g.met.N.Nvm.ends g.met.D.Disk.ends)
+    c.args.number c.args.value.now c.in_ok-admit.ensures _ _ _ _ c.blocks-2.ensures c.encode.ensures c.put.ensures

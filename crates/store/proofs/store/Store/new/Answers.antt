@@ -1,6 +1,5 @@
-use Rattle.std.proofs.Common.{refl}
-use Rattle.store.proofs.Admitted.{fresh}
+use Rattle.engine.proofs.Ordered.{in_order}
 use Rattle.store.proofs.store.Store.new.Goals as goal
 
-pub returns-in-Ok : goal.returns-in-Ok
-returns-in-Ok g c = record { made = (refl, refl, refl, c.in-Ok.ensures); order = fresh _ refl c.in-Ok.ensures }
+pub returns-clause-known : goal.returns-clause-known
+returns-clause-known g c = record { order = in_order _ c.in_ok-engine.engine.ordered; past = tt }

@@ -1,6 +1,6 @@
 use Rattle.order.specs.Order.{kind_of}
-use Rattle.journal.proofs.Telling.{calls_one_by_one}
-use Rattle.journal.proofs.store.calls_one_by_one_are_a_list.Goals as goal
+use Rattle.store.proofs.Telling.{calls_one_by_one}
+use Rattle.store.proofs.store.calls_one_by_one_are_a_list.Goals as goal
 
 pub returns : goal.returns
 returns g c =

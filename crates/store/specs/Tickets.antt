@@ -2,9 +2,9 @@
 use Rattle.std.specs.Prelude.{◌≡◌, ℕ, true, false, Ok, Err, Result}
 use Rattle.calls.specs.declared.answer.Answer.{Answer}
 use Rattle.calls.specs.declared.answer.Answer.TheVariants.{Refused, Used}
-use Rattle.journal.specs.declared.ticket.NotCommitted.{NotCommitted}
-use Rattle.journal.specs.declared.ticket.NotCommitted.TheVariants.{Back, Spent}
-use Rattle.journal.specs.Returned.{hands_back}
+use Rattle.store.specs.declared.ticket.NotCommitted.{NotCommitted}
+use Rattle.store.specs.declared.ticket.NotCommitted.TheVariants.{Back, Spent}
+use Rattle.store.specs.Returned.{hands_back}
 
 -- the places used, or the refusal, with or without the ticket
 abbrev pub commit_answer : {R : Type 0} → Result ℕ NotCommitted → Answer R

@@ -2,7 +2,7 @@
 use Rattle.calls.specs.Plans.{Kind}
 use Rattle.book.specs.Promise.{Lawful}
 use Rattle.promise.proofs.Lists.{no_requests, one_call_more, one_restart_more}
-use Rattle.journal.specs.OneByOne.{none, call, back, CallsOneByOneAreAList}
+use Rattle.store.specs.OneByOne.{none, call, back, CallsOneByOneAreAList}
 
 pub calls_one_by_one : {R : Type 0} (kind : Kind R) → Lawful kind → CallsOneByOneAreAList kind
 calls_one_by_one kind lawful m n requests answers none = no_requests kind lawful m
