@@ -13,15 +13,15 @@ use lines::split::first_line;
 use nvms::devices::PatientNvm;
 use reading::read_past;
 use words::{InShort, InWords};
-use workbench::answer::Answer;
-use workbench::perform::{LIMIT, refuse_input, run_line};
+use workbench::answer::Done;
+use workbench::perform::{LIMIT, check_input, run_line};
 
 /// Runs a line about a tile or a mast, which then waits for a commit.
 fn run_record(rt: &HostRuntime, desk: &mut RingDesk, line: &[u8]) -> anyhow::Result<()> {
     let answer = run_line(line);
     let words = InWords { answer: &answer };
     println!(rt; "{words}")?;
-    if let Answer::Done { number, trip } = &answer {
+    if let Ok(Done { number, trip }) = &answer {
         if let Err(why) = desk.hold(*number, trip.unit) {
             let words = InShort { why };
             println!(rt; "  it does not wait for a commit, {words}")?;
@@ -66,12 +66,13 @@ fn run_lines(rt: &HostRuntime, text: &[u8]) -> anyhow::Result<()> {
 
 fn tour(rt: &HostRuntime) -> anyhow::Result<()> {
     let text = read_past(rt.alloc(), rt.stdin(), LIMIT)?;
-    match refuse_input(text.as_slice()) {
-        Some(answer) => {
+    match check_input(text.as_slice()) {
+        Err(why) => {
+            let answer = Err(why);
             let words = InWords { answer: &answer };
             Ok(println!(rt; "input: {words}")?)
         }
-        None => run_lines(rt, text.as_slice()),
+        Ok(()) => run_lines(rt, text.as_slice()),
     }
 }
 

@@ -6,7 +6,7 @@ use mast::record::Mast;
 use refusal::reason::Refusal;
 use std::fmt;
 use tile::record::Tile;
-use workbench::answer::Answer;
+use workbench::answer::{Answer, Complaint, Done, code};
 
 pub mod memory;
 pub mod ring_words;
@@ -78,9 +78,9 @@ fn show_mast<W: fmt::Write>(
 
 /// What was done, or the number of the refusal and why.
 fn show_answer<W: fmt::Write>(answer: &Answer, f: &mut fmt::Formatter<W>) -> fmt::Result {
-    let code = answer.code();
+    let code = code(answer);
     match answer {
-        Answer::Done { number, trip } => {
+        Ok(Done { number, trip }) => {
             write!(f, "record {number} is ")?;
             match &trip.back {
                 Joined::Tile(tile) => show_tile(tile, &trip.unit, f)?,
@@ -88,12 +88,12 @@ fn show_answer<W: fmt::Write>(answer: &Answer, f: &mut fmt::Formatter<W>) -> fmt
             }
             write!(f, " and read back the same")
         }
-        Answer::Refused(why) => {
+        Err(Complaint::Refused(why)) => {
             let words = reason(*why);
             write!(f, "refused {code}: {words}")
         }
-        Answer::Unknown => write!(f, "refused {code}: not a line that I know"),
-        Answer::TooLong => write!(f, "refused {code}: more than 65536 bytes"),
+        Err(Complaint::Unknown) => write!(f, "refused {code}: not a line that I know"),
+        Err(Complaint::TooLong) => write!(f, "refused {code}: more than 65536 bytes"),
     }
 }
 
