@@ -7,36 +7,26 @@ ghost use Rattle.calllaws.specs.FormatLaw.{SettlingSettlesBoth, FormatsMakeAnEmp
 ghost use Rattle.calllaws.specs.CommitLaw.{CommitsAreAtomic};
 
 /// A commit that is performed whole adds its transaction; cut anywhere, power brings back the old table or the new one.
-pub fn commits_are_atomic() -> u8
+pub fn commits_are_atomic()
     ensures { CommitsAreAtomic }
-{
-    0
-}
+{}
 
 /// A checkpoint leaves the ring empty and the table as it was; cut anywhere, it leaves the same table.
-pub fn checkpoints_keep_the_table() -> u8
+pub fn checkpoints_keep_the_table()
     ensures { CheckpointsKeepTheTable }
-{
-    0
-}
+{}
 
 /// So does a mount, which settles everything first.
-pub fn mounts_keep_the_table() -> u8
+pub fn mounts_keep_the_table()
     ensures { MountsKeepTheTable }
-{
-    0
-}
+{}
 
 /// Flushes of all lines, a fence and a sync settle devices with any contents.
-pub fn settling_settles_both() -> u8
+pub fn settling_settles_both()
     ensures { SettlingSettlesBoth }
-{
-    0
-}
+{}
 
 /// A format makes an empty store of devices with any contents.
-pub fn formats_make_an_empty_store() -> u8
+pub fn formats_make_an_empty_store()
     ensures { FormatsMakeAnEmptyStore }
-{
-    0
-}
+{}

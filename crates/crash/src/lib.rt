@@ -12,15 +12,13 @@ ghost use Rattle.crash.specs.Phases.{RunsPart, CutsPart, OnlyDarknessStopsBoth, 
 ghost use Rattle.crash.specs.Rows.{StoresAreAPhase, WritesAreAPhase, SealingIsAPhase, UnstoredIsSpared, UnwrittenIsSpared};
 
 /// Both kinds of device keep what every law below rests on.
-pub fn devices_are_tame() -> u8
+pub fn devices_are_tame()
     ensures nvm { NvmIsTame }
     ensures disk { DiskIsTame }
-{
-    0
-}
+{}
 
 /// An act of a memory leaves a device no freedom but to settle at the present value, and to go dark.
-pub fn memory_is_narrow() -> u8
+pub fn memory_is_narrow()
     ensures fences { FenceSettles }
     ensures stores { StoreShows }
     ensures settles { SettlingIsDone nvm_rules }
@@ -32,12 +30,10 @@ pub fn memory_is_narrow() -> u8
     ensures runSizes { SizeStaysInRuns nvm_rules }
     ensures darkRuns { DarkRunsNothing nvm_rules }
     ensures restarts { RestartSettles WordMark ℕ }
-{
-    0
-}
+{}
 
 /// The same of a disk.
-pub fn disk_is_narrow() -> u8
+pub fn disk_is_narrow()
     ensures syncs { SyncSettles }
     ensures writes { WriteShows }
     ensures settles { SettlingIsDone disk_rules }
@@ -49,12 +45,10 @@ pub fn disk_is_narrow() -> u8
     ensures runSizes { SizeStaysInRuns disk_rules }
     ensures darkRuns { DarkRunsNothing disk_rules }
     ensures restarts { RestartSettles SectorMark (List ℕ) }
-{
-    0
-}
+{}
 
 /// What runs, cuts and restarts leave of a memory.
-pub fn memory_outlasts_cuts() -> u8
+pub fn memory_outlasts_cuts()
     ensures begun { RunsHaveBegun nvm_rules }
     ensures untouched { UntouchedOutlasts nvm_rules }
     ensures contents { ContentsFollow nvm_rules nvm_keeps }
@@ -65,12 +59,10 @@ pub fn memory_outlasts_cuts() -> u8
     ensures stops { OnlyDarknessStops nvm_rules }
     ensures seals { SealingIsAtomic }
     ensures noisy { FlushesSettleAll }
-{
-    0
-}
+{}
 
 /// The same of a disk.
-pub fn disk_outlasts_cuts() -> u8
+pub fn disk_outlasts_cuts()
     ensures begun { RunsHaveBegun disk_rules }
     ensures untouched { UntouchedOutlasts disk_rules }
     ensures contents { ContentsFollow disk_rules disk_keeps }
@@ -80,23 +72,19 @@ pub fn disk_outlasts_cuts() -> u8
     ensures quiet { QuietActsShowNothing disk_rules disk_keeps }
     ensures stops { OnlyDarknessStops disk_rules }
     ensures noisy { SyncSettlesAll }
-{
-    0
-}
+{}
 
 /// Which lists of acts are phases, and what they spare.
-pub fn rows_are_phases() -> u8
+pub fn rows_are_phases()
     ensures stores { StoresAreAPhase }
     ensures writes { WritesAreAPhase }
     ensures seals { SealingIsAPhase }
     ensures unstored { UnstoredIsSpared }
     ensures unwritten { UnwrittenIsSpared }
-{
-    0
-}
+{}
 
 /// What runs, cuts and restarts leave of both devices.
-pub fn pair_outlasts_cuts() -> u8
+pub fn pair_outlasts_cuts()
     ensures runs { RunsPart }
     ensures cuts { CutsPart }
     ensures stops { OnlyDarknessStopsBoth }
@@ -107,6 +95,4 @@ pub fn pair_outlasts_cuts() -> u8
     ensures sectorsCut { DiskPhaseBlends }
     ensures seals { SealingBothIsAtomic }
     ensures noisy { AnyDevicesSettle }
-{
-    0
-}
+{}

@@ -7,30 +7,22 @@ ghost use Rattle.order.specs.Order.{kind_of, WritesUnits, OnlyDarknessStopsCalls
 use kinds::kind::RecordKind;
 
 /// On a store in order only darkness stops a call: its devices refuse no other act of it.
-pub fn only_darkness_stops_calls<K: RecordKind>() -> u8
+pub fn only_darkness_stops_calls<K: RecordKind>()
     ensures { OnlyDarknessStopsCalls (kind_of K.RecordKind.unit K.RecordKind.reads) }
-{
-    0
-}
+{}
 
 /// Every call leaves the store in order, and with it what the next call rests on.
-pub fn calls_keep_order<K: RecordKind>() -> u8
+pub fn calls_keep_order<K: RecordKind>()
     ensures units { WritesUnits (kind_of K.RecordKind.unit K.RecordKind.reads) }
     ensures order { CallsKeepOrder (kind_of K.RecordKind.unit K.RecordKind.reads) }
-{
-    0
-}
+{}
 
 /// A refused call, but for darkness, leaves the present contents of both devices as they were.
-pub fn refusals_change_nothing<K: RecordKind>() -> u8
+pub fn refusals_change_nothing<K: RecordKind>()
     ensures { RefusalsChangeNothing (kind_of K.RecordKind.unit K.RecordKind.reads) }
-{
-    0
-}
+{}
 
 /// A restart gives a store in order, whatever its devices hold.
-pub fn restarts_give_order() -> u8
+pub fn restarts_give_order()
     ensures { RestartsGiveOrder }
-{
-    0
-}
+{}
