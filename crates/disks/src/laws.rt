@@ -7,11 +7,9 @@ ghost use Rattle.disks.specs.State.{patient, prompt, MadeAsListed};
 pub fn power_lasts()
     ensures patient { Lasts disk_rules patient }
     ensures prompt { Lasts disk_rules prompt }
-{
-}
+{}
 
 /// A disk made of lists has, in each sector of its blocks, what the lists say there.
 pub fn lists_are_kept()
     ensures { MadeAsListed }
-{
-}
+{}

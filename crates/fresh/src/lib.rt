@@ -10,12 +10,12 @@ ghost use Rattle.fresh.specs.Fresh.{RunsFresh};
 
 use disks::patient::PatientDisk;
 use joined::kind::JoinedKind;
-use store::store::Store;
 use nvms::devices::PatientNvm;
 use refusal::reason::Refusal;
 use session::script::run_script;
 use session::session::Session;
 use std::alloc::Global;
+use store::store::Store;
 
 /// The units of the memory: unit 0 and a ring of 32 places.
 const UNITS: usize = 33;

@@ -6,12 +6,12 @@ use device::nvm::Nvm;
 use disks::patient::PatientDisk;
 use disks::prompt::PromptDisk;
 use joined::kind::JoinedKind;
-use store::store::Store;
 use model::model::*;
 use nvms::devices::{EightLineNvm, PatientNvm};
 use std::alloc::Global;
 use std::process::Abort;
 use std::test::Fail;
+use store::store::Store;
 
 /// Runs a list, and the model hears every answer.
 fn one_list<N: Nvm, D: Disk>(

@@ -74,5 +74,4 @@ impl<N: Nvm, D: Disk, K: RecordKind> Store<N, D, K> {
 /// Calls that a program makes one by one, and restarts, keep the same promise as one list of them.
 pub fn calls_one_by_one_are_a_list<K: RecordKind>()
     ensures { CallsOneByOneAreAList (kind_of K.RecordKind.unit K.RecordKind.reads) }
-{
-}
+{}

@@ -7,13 +7,13 @@ use device::comeback::Comeback;
 use device::disk::Disk;
 use device::nvm::Nvm;
 use joined::kind::JoinedKind;
-use store::store::Store;
-use store::ticket::{NotCommitted, Ticket};
 use promise::request::Return;
 use refusal::reason::Refusal;
 use std::alloc::Global;
 use std::process::Abort;
 use std::test::Fail;
+use store::store::Store;
+use store::ticket::{NotCommitted, Ticket};
 
 /// How a commit ended.
 #[derive(Clone, Copy, PartialEq, Eq, Debug)]
