@@ -10,21 +10,16 @@ fn count_of(info: &[u64; 32], left: usize) -> usize {
     if info[31] != MAGIC || count == 0 || count > 30 || count >= left as u64 {
         return 0;
     }
-    for i in 0..30usize {
-        if (i as u64) < count {
-            if info[i] >= 32 {
-                return 0;
-            }
-            for j in 0..i {
-                if info[j] == info[i] {
-                    return 0;
-                }
-            }
-        } else if info[i] != 0 {
+    let (numbers, padding) = info[..30].split_at(count as usize);
+    for (i, number) in numbers.iter().enumerate() {
+        if *number >= 32 || numbers[..i].contains(number) {
             return 0;
         }
     }
-    count as usize
+    if padding.iter().any(|word| *word != 0) {
+        return 0;
+    }
+    numbers.len()
 }
 
 /// Lays what a transaction set over the homes, but for records that a newer one has set.
@@ -35,9 +30,9 @@ fn lay(
     first: usize,
     newer: &mut [bool; 32],
 ) {
-    for i in 0..30usize {
+    for (i, number) in info[..30].iter().enumerate() {
         if (i as u64) < info[30] {
-            let number = (info[i] % 32) as u8;
+            let number = (*number % 32) as u8;
             if !newer[usize::from(number)] {
                 newer[usize::from(number)] = true;
                 let place = (first.wrapping_add(i) % 32) as u8;
@@ -49,12 +44,8 @@ fn lay(
 
 /// Whether a record of a block was set.
 fn is_home(newer: &[bool; 32], block: u8) -> bool {
-    for i in 0..16usize {
-        if newer[usize::from(block % 2) * 16 + i] {
-            return true;
-        }
-    }
-    false
+    let first = usize::from(block % 2) * 16;
+    newer[first..first + 16].contains(&true)
 }
 
 /// What a mount of the image must answer. The disk is then as the mount leaves it.

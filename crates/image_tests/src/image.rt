@@ -31,16 +31,18 @@ pub fn put(words: &mut Vec<u64>, number: usize, value: u64) {
 /// Unit 0 and up.
 pub fn unit(words: &Vec<u64>, number: u8) -> [u64; 32] {
     let mut found = [0; 32];
-    for i in 0..32usize {
-        found[i] = word(words, 32 * usize::from(number) + i);
+    let start = 32 * usize::from(number);
+    for (place, at) in found.iter_mut().zip(start..start + 32) {
+        *place = word(words, at);
     }
     found
 }
 
 /// Writes a unit.
 pub fn put_unit(words: &mut Vec<u64>, number: u8, from: &[u64; 32]) {
-    for i in 0..32usize {
-        put(words, 32 * usize::from(number) + i, from[i]);
+    let start = 32 * usize::from(number);
+    for (value, at) in from.iter().zip(start..start + 32) {
+        put(words, at, *value);
     }
 }
 

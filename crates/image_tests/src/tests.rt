@@ -65,50 +65,52 @@ fn mounts<N: Nvm + Drop, D: Disk + Drop>(
     follow(heap, &mut store, rows.as_slice())
 }
 
-/// Mounts an image of which all is settled, on the patient devices, and one of which nothing is, on the others.
-fn agree(heap: Global, nvm: &Vec<u64>, disk: &Vec<u64>) -> Result<(), Fail> {
-    let mut image = Image {
-        nvm: nvm.clone()?,
-        disk: disk.clone()?,
-    };
-    let expected = mounted(&mut image);
-    mounts(
+/// The patient devices with an image of which all is settled.
+fn settled(heap: Global, image: &Image) -> Result<(PatientNvm, PatientDisk), Fail> {
+    let nvm = PatientNvm::new(
         heap,
-        PatientNvm::new(
-            heap,
-            nvm.clone()?,
-            nvm.clone()?,
-            vec![in heap; Mark::Settled; 1056]?,
-            PLENTY,
-        )?,
-        PatientDisk::new(
-            heap,
-            disk.clone()?,
-            disk.clone()?,
-            vec![in heap; false; 16]?,
-            PLENTY,
-        )?,
-        expected,
-        &image.disk,
+        image.nvm.clone()?,
+        image.nvm.clone()?,
+        vec![in heap; Mark::Settled; 1056]?,
+        PLENTY,
     )?;
+    let disk = PatientDisk::new(
+        heap,
+        image.disk.clone()?,
+        image.disk.clone()?,
+        vec![in heap; false; 16]?,
+        PLENTY,
+    )?;
+    Ok((nvm, disk))
+}
+
+/// Mounts an image of which all is settled, on the patient devices, and one of which nothing is, on the others.
+fn agree(heap: Global, image: &Image) -> Result<(), Fail> {
+    let mut after = Image {
+        nvm: image.nvm.clone()?,
+        disk: image.disk.clone()?,
+    };
+    let expected = mounted(&mut after);
+    let (nvm, disk) = settled(heap, image)?;
+    mounts(heap, nvm, disk, expected, &after.disk)?;
     mounts(
         heap,
         EightLineNvm::new(
             heap,
             vec![in heap; 1; 1056]?,
-            nvm.clone()?,
+            image.nvm.clone()?,
             vec![in heap; Mark::Waiting; 1056]?,
             PLENTY,
         )?,
         PromptDisk::new(
             heap,
             vec![in heap; 1; 1024]?,
-            disk.clone()?,
+            image.disk.clone()?,
             vec![in heap; true; 16]?,
             PLENTY,
         )?,
         expected,
-        &image.disk,
+        &after.disk,
     )
 }
 
@@ -116,7 +118,7 @@ fn agree(heap: Global, nvm: &Vec<u64>, disk: &Vec<u64>) -> Result<(), Fail> {
 fn turned(heap: Global, image: &mut Image, number: usize, mask: u64) -> Result<(), Fail> {
     let before = word(&image.nvm, number);
     put(&mut image.nvm, number, before ^ mask);
-    agree(heap, &image.nvm, &image.disk)?;
+    agree(heap, image)?;
     put(&mut image.nvm, number, before);
     Ok(())
 }
@@ -126,7 +128,7 @@ fn turned(heap: Global, image: &mut Image, number: usize, mask: u64) -> Result<(
 fn every_word_turned(rt: HostRuntime) -> Result<(), Fail> {
     let heap = rt.alloc();
     let mut image = sound_image(heap)?;
-    agree(heap, &image.nvm, &image.disk)?;
+    agree(heap, &image)?;
     for mask in [1, 2, 7, 31, 32, 0x8000_0000_0000_0000] {
         for number in 0..256usize {
             turned(heap, &mut image, number, mask)?;
@@ -164,10 +166,8 @@ fn some_answers(rt: HostRuntime) -> Result<(), Fail> {
     for (number, value, reply) in rows {
         let mut image = sound_image(heap)?;
         put(&mut image.nvm, number, value);
-        let nvm = image.nvm.clone()?;
-        let disk = image.disk.clone()?;
+        agree(heap, &image)?;
         assert_eq!(rt; mounted(&mut image), reply);
-        agree(heap, &nvm, &disk)?;
     }
     Ok(())
 }
@@ -190,7 +190,7 @@ fn noise(rt: HostRuntime) -> Result<(), Fail> {
             let before = word(&image.nvm, number);
             put(&mut image.nvm, number, before ^ (x >> 32) % 64);
         }
-        agree(heap, &image.nvm, &image.disk)?;
+        agree(heap, &image)?;
     }
     Ok(())
 }
@@ -199,21 +199,7 @@ fn noise(rt: HostRuntime) -> Result<(), Fail> {
 #[test]
 fn foreign_units(rt: HostRuntime) -> Result<(), Fail> {
     let heap = rt.alloc();
-    let image = sound_image(heap)?;
-    let nvm = PatientNvm::new(
-        heap,
-        image.nvm.clone()?,
-        image.nvm.clone()?,
-        vec![in heap; Mark::Settled; 1056]?,
-        PLENTY,
-    )?;
-    let disk = PatientDisk::new(
-        heap,
-        image.disk.clone()?,
-        image.disk.clone()?,
-        vec![in heap; false; 16]?,
-        PLENTY,
-    )?;
+    let (nvm, disk) = settled(heap, &sound_image(heap)?)?;
     let mut store = store_of(heap, nvm, disk)?;
     follow(heap, &mut store, &FOREIGN)
 }
