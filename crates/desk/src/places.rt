@@ -3,8 +3,8 @@ use crate::ring_desk::RingDesk;
 use crate::rings::{BLOCKS, PLACES};
 use ring::source::Words;
 use ring::unit::load_unit;
-use ring::walk::step_back;
-use ringunits::places::{is_ring, place_before, used_between};
+use ring::walk::Walk;
+use ringunits::places::place_before;
 
 /// What a place of the ring is.
 #[derive(Clone, Copy)]
@@ -30,20 +30,18 @@ impl RingDesk {
 
     /// What a place is, by stepping back from the tail to the transaction that has it.
     pub fn role(&self, place: usize) -> Role {
-        let head = self.head();
-        let mut end = self.tail();
-        if place >= PLACES || !is_ring(PLACES, head, end) {
+        let ring = self.ring();
+        if place >= PLACES || !ring.is_valid() {
             return Role::NotReached;
         }
-        let mut left = used_between(PLACES, head, end);
-        if place_before(PLACES, place, head) >= left {
+        if place_before(PLACES, place, ring.head) >= ring.used() {
             return Role::Free;
         }
         let words = Words(self.words());
-        while left > 0 {
-            let Ok(step) = step_back(&words, PLACES, BLOCKS, end, left) else {
-                return Role::NotReached;
-            };
+        let Ok(mut walk) = Walk::from_tail(&words, ring, BLOCKS) else {
+            return Role::NotReached;
+        };
+        while let Ok(Some(step)) = walk.step() {
             let index = place_before(PLACES, place, step.first);
             if index < step.count {
                 return Role::Record(step.info[index]);
@@ -54,8 +52,6 @@ impl RingDesk {
                     words: step.info,
                 };
             }
-            end = step.first;
-            left = step.left;
         }
         Role::NotReached
     }

@@ -14,6 +14,7 @@ use ringlaws::setting::Setting;
 use ringunits::fill::append;
 use ringunits::header::{HEAD_WORD, TAIL_WORD};
 use ringunits::info::COUNT_LIMIT;
+use ringunits::places::Ring;
 use std::alloc::Global;
 
 /// The places of the ring.
@@ -52,6 +53,17 @@ impl RingDesk {
         self.image[TAIL_WORD] as usize
     }
 
+    /// The numbers of the ring.
+    pub(crate) fn ring(&self) -> Ring
+        ensures { result ≡ record { places = 32; head = head_in (image_of self.now); tail = tail_in (image_of self.now) } }
+    {
+        Ring {
+            places: PLACES,
+            head: self.head(),
+            tail: self.tail(),
+        }
+    }
+
     /// The words of the image.
     pub fn words(&self) -> &[u64]
         ensures { result.now ≡ image_of self.now }
@@ -83,7 +95,7 @@ impl RingDesk {
         ensures { Lists (word_of (image_of self.now)) 32 4 (head_in (image_of self.now)) (tail_in (image_of self.now)) result }
     {
         let words = Words(self.image.as_slice());
-        list::transactions(heap, &words, PLACES, BLOCKS, self.head(), self.tail())
+        list::transactions(heap, &words, self.ring(), BLOCKS)
     }
 
     /// The newest place of a record.
@@ -91,7 +103,7 @@ impl RingDesk {
         ensures { Finds (word_of (image_of self.now)) 32 (head_in (image_of self.now)) (tail_in (image_of self.now)) number result }
     {
         let words = Words(self.image.as_slice());
-        find::find(&words, PLACES, self.head(), self.tail(), number)
+        find::find(&words, self.ring(), number)
     }
 
     /// Sets one word of the image to a value, as a fault of the memory would.

@@ -12,10 +12,5 @@ pub fn prints(heap: Global, input: &[u8], expected: &[u8]) -> Result<bool, Fail>
 /// Whether the output of a script ends with this.
 pub fn ends_with(heap: Global, input: &[u8], tail: &[u8]) -> Result<bool, Fail> {
     let output = run_fresh(heap, input)?;
-    let all = output.as_slice();
-    if all.len() < tail.len() {
-        return Ok(false);
-    }
-    let from = all.len() - tail.len();
-    Ok(&all[from..] == tail)
+    Ok(output.as_slice().ends_with(tail))
 }

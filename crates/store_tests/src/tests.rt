@@ -9,28 +9,26 @@ use nvms::devices::{EightLineNvm, PatientNvm};
 use std::alloc::Global;
 use std::test::Fail;
 
-fn patient(heap: Global) -> Result<PatientNvm, Fail> {
-    Ok(PatientNvm::zeroed(heap, 33, PLENTY)?)
-}
-
-fn eight_line(heap: Global) -> Result<EightLineNvm, Fail> {
-    Ok(EightLineNvm::zeroed(heap, 33, PLENTY)?)
-}
-
-fn patient_disk(heap: Global) -> Result<PatientDisk, Fail> {
-    Ok(PatientDisk::zeroed(heap, 2, PLENTY)?)
-}
-
-fn prompt_disk(heap: Global) -> Result<PromptDisk, Fail> {
-    Ok(PromptDisk::zeroed(heap, 2, PLENTY)?)
-}
-
 #[test]
 fn refusals_by_state(rt: HostRuntime) -> Result<(), Fail> {
     let heap = rt.alloc();
-    by_state(&rt, heap, patient(heap)?, patient_disk(heap)?)?;
-    by_state(&rt, heap, eight_line(heap)?, prompt_disk(heap)?)?;
-    one_block(heap, patient(heap)?, PatientDisk::zeroed(heap, 1, PLENTY)?)
+    by_state(
+        &rt,
+        heap,
+        PatientNvm::zeroed(heap, 33, PLENTY)?,
+        PatientDisk::zeroed(heap, 2, PLENTY)?,
+    )?;
+    by_state(
+        &rt,
+        heap,
+        EightLineNvm::zeroed(heap, 33, PLENTY)?,
+        PromptDisk::zeroed(heap, 2, PLENTY)?,
+    )?;
+    one_block(
+        heap,
+        PatientNvm::zeroed(heap, 33, PLENTY)?,
+        PatientDisk::zeroed(heap, 1, PLENTY)?,
+    )
 }
 
 /// A memory and a disk of these sizes are refused with this number.
@@ -56,8 +54,8 @@ fn sizes(rt: HostRuntime) -> Result<(), Fail> {
     take(heap, 33, 4096, 65535)?;
     let mut nvm = PatientNvm::zeroed(heap, 32, 0)?;
     let _ = nvm.fence();
-    bad_size(heap, nvm, patient_disk(heap)?, 5)?;
+    bad_size(heap, nvm, PatientDisk::zeroed(heap, 2, PLENTY)?, 5)?;
     let mut disk = PromptDisk::zeroed(heap, 0, 0)?;
     let _ = disk.sync();
-    bad_size(heap, patient(heap)?, disk, 5)
+    bad_size(heap, PatientNvm::zeroed(heap, 33, PLENTY)?, disk, 5)
 }

@@ -1,8 +1,8 @@
-use Rattle.std.proofs.Common.{◌<◌}
+use Rattle.std.proofs.Common.{◌≡◌}
 use Rattle.desk.proofs.ring_desk.RingDesk.role.Given as goal
 
-abbrev pub invariant-loop-left : goal.invariant-loop-left
-invariant-loop-left l = (l.end < 32) × (l.left < 32)
+abbrev pub invariant-loop-step : goal.invariant-loop-step
+invariant-loop-step l = l.walk.ring.places ≡ 32
 
-abbrev pub decreases-loop-left : goal.decreases-loop-left
-decreases-loop-left l = l.left
+abbrev pub decreases-loop-step : goal.decreases-loop-step
+decreases-loop-step l = l.walk.left

@@ -4,4 +4,4 @@ use Rattle.desk.proofs.Lent.{of_equals}
 use Rattle.desk.proofs.ring_desk.RingDesk.transactions.Goals as goal
 
 pub returns : goal.returns
-returns c = of_equals (λ ws h t. Lists (word_of ws) 32 4 h t c.transactions.result) c.as_slice.ensures.value c.head.ensures c.tail.ensures c.transactions.ensures
+returns c = of_equals (λ ws r. Lists (word_of ws) r.places 4 r.head r.tail c.transactions.result) c.as_slice.ensures.value c.ring.ensures c.transactions.ensures
