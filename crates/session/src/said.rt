@@ -1,7 +1,6 @@
 //! What a line says of an answer and of the store, and what becomes of the ticket.
 ghost use Rattle.std.specs.Prelude.{◌≡◌};
-ghost use Rattle.settings.specs.Puts.{list_of};
-ghost use Rattle.calling.specs.Seen.{seen};
+ghost use Rattle.store.specs.Machine.{machine};
 ghost use Rattle.book.specs.Commits.{is_accepted};
 ghost use Rattle.printing.specs.Said.{standing_letter, number_shown, detail_shown};
 ghost use Rattle.session.specs.Said.{number_said, detail_said, kept_by, letter_of, needs_ticket};
@@ -63,7 +62,7 @@ pub fn needs_ticket(command: Command<'_>) -> bool
 
 /// How a store stands: dark, or by its state unmounted, idle or open.
 pub fn standing<N: Nvm, D: Disk>(store: &Store<N, D, JoinedKind>) -> Standing
-    ensures { standing_letter result ≡ letter_of (seen (N.Nvm.meaning store.now.engine.nvm) (D.Disk.meaning store.now.engine.disk) store.now.engine.state (list_of store.now.engine.settings)) }
+    ensures { standing_letter result ≡ letter_of (machine store.now) }
 {
     if store.is_dark() {
         return Standing::Dark;

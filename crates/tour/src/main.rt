@@ -13,7 +13,6 @@ use lines::split::first_line;
 use nvms::devices::PatientNvm;
 use reading::read_past;
 use words::{InShort, InWords};
-use workbench::answer::Done;
 use workbench::perform::{LIMIT, check_input, run_line};
 
 /// Runs a line about a tile or a mast, which then waits for a commit.
@@ -21,8 +20,8 @@ fn run_record(rt: &HostRuntime, desk: &mut RingDesk, line: &[u8]) -> anyhow::Res
     let answer = run_line(line);
     let words = InWords { answer: &answer };
     println!(rt; "{words}")?;
-    if let Ok(Done { number, trip }) = &answer {
-        if let Err(why) = desk.hold(*number, trip.unit) {
+    if let Ok(done) = &answer {
+        if let Err(why) = desk.hold(done.number, done.trip.unit) {
             let words = InShort { why };
             println!(rt; "  it does not wait for a commit, {words}")?;
         }

@@ -76,18 +76,22 @@ fn show_mast<W: fmt::Write>(
     )
 }
 
+/// What was done: the record with its number, and that it reads back.
+fn show_done<W: fmt::Write>(done: &Done, f: &mut fmt::Formatter<W>) -> fmt::Result {
+    let number = done.number;
+    write!(f, "record {number} is ")?;
+    match &done.trip.back {
+        Joined::Tile(tile) => show_tile(tile, &done.trip.unit, f)?,
+        Joined::Mast(mast) => show_mast(mast, &done.trip.unit, f)?,
+    }
+    write!(f, " and read back the same")
+}
+
 /// What was done, or the number of the refusal and why.
 fn show_answer<W: fmt::Write>(answer: &Answer, f: &mut fmt::Formatter<W>) -> fmt::Result {
     let code = code(answer);
     match answer {
-        Ok(Done { number, trip }) => {
-            write!(f, "record {number} is ")?;
-            match &trip.back {
-                Joined::Tile(tile) => show_tile(tile, &trip.unit, f)?,
-                Joined::Mast(mast) => show_mast(mast, &trip.unit, f)?,
-            }
-            write!(f, " and read back the same")
-        }
+        Ok(done) => show_done(done, f),
         Err(Complaint::Refused(why)) => {
             let words = reason(*why);
             write!(f, "refused {code}: {words}")

@@ -7,8 +7,8 @@ use Rattle.session.proofs.session.Session.line.Goals as goal
 
 pub returns-in-None : goal.returns-in-None
 returns-in-None g c =
-    another_form (machine_of g.N.Nvm.meaning g.D.Disk.meaning c.args.self.now) c.args.self.now.held (command_of c.args.line.now) _ _ c.in-None.ensures refl refl
+    another_form (machine_of c.args.self.now) c.args.self.now.held (command_of c.args.line.now) _ _ c.in-None.ensures refl refl
 
 pub returns-in-Some : goal.returns-in-Some
 returns-in-Some g c =
-    renamed (machine_of g.N.Nvm.meaning g.D.Disk.meaning c.args.self.now) c.args.self.now.held (command_of c.args.line.now) (Some (asked c.in-Some.command)) (machine_of g.N.Nvm.meaning g.D.Disk.meaning c.command.new.self) _ c.command.result (sym c.in-Some.ensures) c.command.ensures
+    renamed (machine_of c.args.self.now) c.args.self.now.held (command_of c.args.line.now) (Some (asked c.in-Some.command)) (machine_of c.command.new.self) _ c.command.result (sym c.in-Some.ensures) c.command.ensures
