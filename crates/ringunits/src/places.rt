@@ -5,13 +5,6 @@ ghost use Rattle.ringlaws.specs.Layout.{after, before, used_between, is_ring, ho
 /// The most places that a ring may have.
 pub const MOST_PLACES: usize = 255;
 
-/// Whether head and tail are places of a ring of so many.
-pub fn is_ring(places: usize, head: usize, tail: usize) -> bool
-    ensures { result ≡ is_ring places head tail }
-{
-    Ring { places, head, tail }.is_valid()
-}
-
 /// The numbers of a ring: how many places it has, the place where its used part begins, and the place where that ends.
 #[derive(Clone, Copy, PartialEq, Eq, Debug)]
 pub struct Ring {
@@ -59,14 +52,6 @@ pub fn place_after(places: usize, place: usize, steps: usize) -> usize
     } else {
         steps - (places - place)
     }
-}
-
-/// How many places are used.
-pub fn used_between(places: usize, head: usize, tail: usize) -> usize
-    requires { (head < places) × (tail < places) }
-    ensures { result ≡ used_between places head tail }
-{
-    Ring { places, head, tail }.used()
 }
 
 /// Where a record has its home on the disk.
