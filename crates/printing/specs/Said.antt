@@ -1,19 +1,10 @@
--- What a line says: how the store stands, and a detail or a complaint, as the letter, the number and the detail of its text.
+-- What a line says: a detail or a complaint, as the number and the detail of its text.
 use Rattle.std.specs.Prelude.{ℕ, Ok, Err, Result}
 use Rattle.refusal.specs.Numbers.{number_of}
 use Rattle.printing.specs.declared.detail.Detail.{Detail}
 use Rattle.printing.specs.declared.detail.Detail.TheVariants.{Nothing}
 use Rattle.printing.specs.declared.complaint.Complaint.{Complaint}
 use Rattle.printing.specs.declared.complaint.Complaint.TheVariants.{Refused, AnotherForm, TooLong}
-use Rattle.printing.specs.declared.standing.Standing.{Standing}
-use Rattle.printing.specs.declared.standing.Standing.TheVariants.{Unmounted, Idle, Open, Dark}
-
--- the letters u, i, o and d
-abbrev pub standing_letter : Standing → ℕ
-standing_letter Unmounted = 117
-standing_letter Idle = 105
-standing_letter Open = 111
-standing_letter Dark = 100
 
 -- the number of a refusal, or 90 or 91
 abbrev pub complaint_number : Complaint → ℕ

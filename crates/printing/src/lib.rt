@@ -3,5 +3,5 @@
 
 pub mod complaint;
 pub mod detail;
+mod fields;
 pub mod line;
-pub mod standing;

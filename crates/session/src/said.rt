@@ -2,7 +2,7 @@
 ghost use Rattle.std.specs.Prelude.{◌≡◌};
 ghost use Rattle.store.specs.Machine.{machine};
 ghost use Rattle.book.specs.Commits.{is_accepted};
-ghost use Rattle.printing.specs.Said.{standing_letter, number_shown, detail_shown};
+ghost use Rattle.printing.specs.Said.{number_shown, detail_shown};
 ghost use Rattle.session.specs.Said.{number_said, detail_said, kept_by, letter_of, needs_ticket};
 ghost use Rattle.commands.specs.Commands.{asked};
 
@@ -15,7 +15,6 @@ use joined::kind::JoinedKind;
 use joined::record::Joined;
 use printing::complaint::Complaint;
 use printing::detail::Detail;
-use printing::standing::Standing;
 use refusal::reason::Refusal;
 use store::store::Store;
 
@@ -60,16 +59,16 @@ pub fn needs_ticket(command: Command<'_>) -> bool
     )
 }
 
-/// How a store stands: dark, or by its state unmounted, idle or open.
-pub fn standing<N: Nvm, D: Disk>(store: &Store<N, D, JoinedKind>) -> Standing
-    ensures { standing_letter result ≡ letter_of (machine store.now) }
+/// The letter of a store: dark, or by its state unmounted, idle or open.
+pub fn letter<N: Nvm, D: Disk>(store: &Store<N, D, JoinedKind>) -> char
+    ensures { result ≡ letter_of (machine store.now) }
 {
     if store.is_dark() {
-        return Standing::Dark;
+        return 'd';
     }
     match store.state() {
-        State::Unmounted => Standing::Unmounted,
-        State::Idle => Standing::Idle,
-        State::Open => Standing::Open,
+        State::Unmounted => 'u',
+        State::Idle => 'i',
+        State::Open => 'o',
     }
 }

@@ -7,14 +7,13 @@ ghost use Rattle.printing.specs.declared.detail.Detail.TheVariants.{Nothing};
 ghost use Rattle.printing.specs.Texts.{line_text};
 ghost use Rattle.session.specs.Lines.{most_bytes, LineWritten, Progress, Script, Runs};
 
-use crate::said::standing;
+use crate::said::letter;
 use crate::session::Session;
 use device::disk::Disk;
 use device::nvm::Nvm;
 use lines::split::first_line;
 use printing::complaint::Complaint;
-use printing::line::Line;
-use printing::standing::Standing;
+use printing::line::write_said;
 use refusal::reason::Refusal;
 use std::alloc::Global;
 
@@ -35,13 +34,8 @@ fn run_line<N: Nvm, D: Disk>(
         (machine_of session.new) session.new.held) (λ e. e ≡ NoMemory) }
 {
     let said = session.line(heap, line)?;
-    let standing = standing(&session.store);
-    let line = Line {
-        number,
-        standing,
-        said,
-    };
-    line.write_to(out).map_err(|_| Refusal::NoMemory)
+    let state = letter(&session.store);
+    write_said(out, number, state, &said).map_err(|_| Refusal::NoMemory)
 }
 
 /// Runs the lines of a script, one after another.
@@ -72,12 +66,7 @@ fn refuse(heap: Global) -> Result<Vec<u8>, Refusal>
     ensures { MatchResult result (λ out. out.items ≡ line_text 0 117 91 Nothing) (λ e. e ≡ NoMemory) }
 {
     let mut out = Vec::new(heap);
-    let line = Line {
-        number: 0,
-        standing: Standing::Unmounted,
-        said: Err(Complaint::TooLong),
-    };
-    line.write_to(&mut out).map_err(|_| Refusal::NoMemory)?;
+    write_said(&mut out, 0, 'u', &Err(Complaint::TooLong)).map_err(|_| Refusal::NoMemory)?;
     Ok(out)
 }
 

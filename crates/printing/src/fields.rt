@@ -1,0 +1,58 @@
+//! The fields of a record, and of a detail.
+ghost use Rattle.std.specs.Prelude.{◌≡◌, ◌++◌, OnOk};
+ghost use Rattle.lines.specs.Splits.{tabbed};
+ghost use Rattle.printing.specs.Texts.{tile_fields, mast_fields, record_fields, detail_fields};
+
+use crate::detail::Detail;
+use joined::record::Joined;
+use mast::record::Mast;
+use std::alloc::AllocError;
+use std::io::Write;
+use tile::record::Tile;
+
+// Kept: `absent`, `tile` and `mast` are written as the fixed byte strings that a script's verbs are compared with, as the project's
+// rules want them, and by no Display of a record.
+
+/// Writes a tile's verb, column, row, plan and the level of sample 0.
+fn write_tile(out: &mut Vec<u8>, tile: &Tile) -> Result<(), AllocError>
+    ensures { OnOk result (out.new.items ≡ out.old.items ++ tabbed (tile_fields tile.now)) }
+{
+    let column = tile.column();
+    let row = tile.row();
+    let plan = tile.plan();
+    let level = tile.level(0).unwrap_or(0);
+    out.extend_from_slice(b"tile")?;
+    write!(out, "\t{column}\t{row}\t{plan}\t{level}").map_err(|_| AllocError)
+}
+
+/// Writes a mast's verb, number and name.
+fn write_mast(out: &mut Vec<u8>, mast: &Mast) -> Result<(), AllocError>
+    ensures { OnOk result (out.new.items ≡ out.old.items ++ tabbed (mast_fields mast.now)) }
+{
+    let number = mast.number();
+    let name = mast.text();
+    out.extend_from_slice(b"mast")?;
+    write!(out, "\t{number}\t{name}").map_err(|_| AllocError)
+}
+
+/// Writes a record.
+fn write_record(out: &mut Vec<u8>, value: &Joined) -> Result<(), AllocError>
+    ensures { OnOk result (out.new.items ≡ out.old.items ++ tabbed (record_fields value.now)) }
+{
+    match value {
+        Joined::Tile(tile) => write_tile(out, tile),
+        Joined::Mast(mast) => write_mast(out, mast),
+    }
+}
+
+/// Writes a detail: a dash for nothing.
+pub fn write_detail(out: &mut Vec<u8>, detail: &Detail) -> Result<(), AllocError>
+    ensures { OnOk result (out.new.items ≡ out.old.items ++ tabbed (detail_fields detail.now)) }
+{
+    match detail {
+        Detail::Nothing => out.extend_from_slice(b"-"),
+        Detail::Count(count) => write!(out, "{count}").map_err(|_| AllocError),
+        Detail::Absent => out.extend_from_slice(b"absent"),
+        Detail::Record(value) => write_record(out, value),
+    }
+}
