@@ -43,6 +43,7 @@ pub enum Ask {
 /// What is answered. A refusal is its number, an unsound ring the place.
 #[derive(Clone, Copy, PartialEq, Eq, Debug)]
 pub enum Reply {
+    // Kept: by its number, which the rules name, so that a table can be read beside them.
     No(u32),
     Unsound(usize),
     Done,

@@ -2,6 +2,7 @@
 use refusal::reason::Refusal;
 
 /// What a call of a store answers.
+// Kept: one list of cases, as the definitions go through it case by case; a Result would part it in two, with two names for each case.
 #[derive(Drop)]
 pub enum Answer<R> {
     /// The call is refused.

@@ -88,6 +88,8 @@ fn unless(cut: bool, reply: Reply) -> Reply {
     if cut { No(5) } else { reply }
 }
 
+// Kept: a way of coming back and the acts of each device go as numbers, since the loops below count them, one at a time.
+
 /// A format with these acts: afterwards there is the old table, no ground mark or an empty table.
 fn format_cut<N: Nvm, D: Disk>(
     rt: &impl Abort,

@@ -1,5 +1,7 @@
 //! The lines about the ring and about the memory.
+use commands::command::Contents;
 use device::comeback::Comeback;
+use lines::fields::word_at;
 use lines::numeral::number;
 use lines::split::{field, has_fields};
 
@@ -40,11 +42,6 @@ pub enum Verb {
     Memory(MemoryVerb),
 }
 
-/// The number in field `k`.
-fn word_at(line: &[u8], k: usize) -> Option<u64> {
-    number(field(line, k)?)
-}
-
 /// A line of one field.
 fn alone(verb: &[u8]) -> Option<Verb> {
     match verb {
@@ -66,20 +63,11 @@ fn with_number(verb: &[u8], n: u64) -> Option<Verb> {
     }
 }
 
-/// How the memory comes back.
-fn comeback(word: &[u8]) -> Option<Comeback> {
-    match word {
-        b"old" => Some(Comeback::Old),
-        b"new" => Some(Comeback::New),
-        _ => None,
-    }
-}
-
 /// A line of a verb, a field and a number.
 fn with_two(verb: &[u8], first: &[u8], value: u64) -> Option<Verb> {
     match verb {
         b"restart" => {
-            let back = comeback(first)?;
+            let back = Contents::try_from(first).ok()?.into();
             Some(Verb::Memory(MemoryVerb::Restart { back, acts: value }))
         }
         b"damage" => {

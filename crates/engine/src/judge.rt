@@ -7,6 +7,7 @@ use calls::state::State;
 use refusal::reason::Refusal;
 
 /// The refusal that a call meets by the state of the store, or none. What record a call sets does not matter to it.
+// Kept: an `Option`, as in the definition, since here a refusal is what is asked for and no failure.
 pub fn judge<R>(state: State, call: &Call<R>) -> Option<Refusal>
     ensures { result ≡ judgement state call.now }
 {

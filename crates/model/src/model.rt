@@ -11,6 +11,7 @@ pub struct Model {
     pub worlds: Vec<World>,
     pub open: Vec<(u64, u64)>,
     pub state: State,
+    // Kept: power and state are two things, since a store that goes dark keeps its state.
     pub dark: bool,
     pub used: u64,
     /// The acts that the memory and the disk still perform.
@@ -23,7 +24,7 @@ pub struct Model {
 /// A model of a store that was never formatted.
 pub fn untouched(heap: Global) -> Result<Model, AllocError> {
     Ok(Model {
-        worlds: vec![in heap; UNMARKED]?,
+        worlds: vec![in heap; World::Unmarked]?,
         open: Vec::new(heap),
         state: State::Unmounted,
         dark: false,
@@ -68,7 +69,7 @@ fn change(heap: Global, model: &mut Model, news: &Vec<World>) -> Result<bool, Al
 
 /// Whether a format is done.
 fn formats(heap: Global, model: &mut Model) -> Result<bool, AllocError> {
-    if !settles(model) || !change(heap, model, &vec![in heap; UNMARKED]?)? {
+    if !settles(model) || !change(heap, model, &vec![in heap; World::Unmarked]?)? {
         return Ok(false);
     }
     if spend(&mut model.disk_acts, 3) < 3 || spend(&mut model.nvm_acts, 36) < 36 {
@@ -148,7 +149,7 @@ fn empties(heap: Global, model: &mut Model, reply: Reply) -> Result<(), Fail> {
     for world in model.worlds.iter() {
         let blocks = world.blocks();
         let writes = u64::from(blocks) + 1;
-        if !world.marked {
+        if *world == World::Unmarked {
             if reply == Reply::No(11) {
                 add(&mut left, *world)?;
             }

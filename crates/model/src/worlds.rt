@@ -2,54 +2,63 @@
 use asked::asks::{Reply, Table};
 use std::alloc::{AllocError, AllocFailed};
 
-/// Whether there is a ground mark, the values of the records, and which of the two blocks are home to a record in the ring.
+/// One possibility.
 #[derive(Clone, Copy, PartialEq, Eq)]
-pub struct World {
-    pub marked: bool,
-    pub values: Table,
-    pub homes: [bool; 2],
+pub enum World {
+    /// There is no ground mark: of an unfinished format nothing can be told.
+    Unmarked,
+    /// The values of the records, and which of the two blocks are home to a record in the ring.
+    Marked { values: Table, homes: [bool; 2] },
 }
 
-/// Of an unfinished format nothing can be told.
-pub const UNMARKED: World = World {
-    marked: false,
+/// After a format every record is absent.
+pub const BLANK: World = World::Marked {
     values: [0; 32],
     homes: [false; 2],
-};
-
-/// After a format every record is absent.
-pub const BLANK: World = World {
-    marked: true,
-    ..UNMARKED
 };
 
 impl World {
     /// How many blocks a checkpoint writes.
     pub fn blocks(&self) -> u8 {
-        u8::from(self.homes[0]) + u8::from(self.homes[1])
+        match self {
+            World::Unmarked => 0,
+            World::Marked { homes, .. } => u8::from(homes[0]) + u8::from(homes[1]),
+        }
     }
 
     /// The same with an empty ring.
     pub fn emptied(&self) -> World {
-        World {
-            homes: [false; 2],
-            ..*self
+        match self {
+            World::Unmarked => World::Unmarked,
+            World::Marked { values, .. } => World::Marked {
+                values: *values,
+                homes: [false; 2],
+            },
         }
     }
 
     /// The same with settings laid over.
     pub fn laid(&self, settings: &[(u64, u64)]) -> World {
-        let mut new = *self;
-        for (number, value) in settings {
-            new.values[(*number % 32) as usize] = *value;
-            new.homes[(*number / 16 % 2) as usize] = true;
+        match self {
+            World::Unmarked => World::Unmarked,
+            World::Marked { values, homes } => {
+                let mut values = *values;
+                let mut homes = *homes;
+                for (number, value) in settings {
+                    values[(*number % 32) as usize] = *value;
+                    homes[(*number / 16 % 2) as usize] = true;
+                }
+                World::Marked { values, homes }
+            }
         }
-        new
     }
 
     /// What a read answers.
     pub fn reading(&self, number: u64) -> Reply {
-        shown(self.values[(number % 32) as usize])
+        match self {
+            World::Unmarked => Reply::Absent,
+            World::Marked { values, .. } => shown(values[(number % 32) as usize]),
+        }
     }
 }
 

@@ -57,6 +57,7 @@ pub enum Step {
 pub struct Row(pub Step, pub u32, pub Look, pub Look, pub Look);
 
 /// The number of a refusal, or 0.
+// Kept: by its number, which the rules name, so that a table can be read beside them.
 pub fn number(answer: Result<(), Refusal>) -> u32 {
     match answer {
         Ok(()) => 0,

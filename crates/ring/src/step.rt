@@ -9,6 +9,7 @@ pub struct Step {
     pub first: usize,
     pub left: usize,
     pub count: usize,
+    // Kept: the 32 words of the unit as they lie in the ring, which is their format; `numbers` is the part that counts.
     pub info: [u64; 32],
 }
 

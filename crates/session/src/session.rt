@@ -19,6 +19,7 @@ use store::store::Store;
 #[derive(Drop)]
 pub struct Session<N: Nvm, D: Disk> {
     pub(crate) store: Store<N, D, JoinedKind>,
+    // Kept: a plain yes or no with no value beside it; the ticket itself is never there, since `run` makes the calls.
     pub(crate) held: bool,
 }
 

@@ -6,6 +6,7 @@ use refusal::reason::Refusal;
 
 /// What begin hands out, and what must go back: a ticket that is dropped unspent is refused by the check. It does not name
 /// its store.
+// Kept: a plain number whose drop demands that it was spent, the form that the project's rules name; so the clauses ask for it.
 pub struct Ticket {
     /// 1 until the ticket is spent, then 0.
     pub(crate) live: u64,

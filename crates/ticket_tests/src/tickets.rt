@@ -27,6 +27,7 @@ pub enum End {
 }
 
 /// The number of a refusal, or 0.
+// Kept: by its number, which the rules name, so that a test can be read beside them.
 fn number(answer: Result<(), Refusal>) -> u32 {
     match answer {
         Ok(()) => 0,
