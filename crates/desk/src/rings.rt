@@ -28,14 +28,10 @@ impl RingDesk {
     pub fn new(heap: Global) -> Result<RingDesk, Refusal>
         ensures { MatchResult result (λ d. (image_of d ≡ empty_image) × (waiting_of d ≡ [])) (λ e. e ≡ NoMemory) }
     {
-        let Ok(mut image) = vec![in heap; 0; 1056] else {
-            return Err(Refusal::NoMemory);
-        };
+        let mut image = vec![in heap; 0; 1056]?;
         image[HEAD_WORD] = 30;
         image[TAIL_WORD] = 30;
-        let Ok(waiting) = Vec::with_capacity(heap, COUNT_LIMIT) else {
-            return Err(Refusal::NoMemory);
-        };
+        let waiting = Vec::with_capacity(heap, COUNT_LIMIT)?;
         Ok(RingDesk { image, waiting })
     }
 

@@ -45,9 +45,7 @@ impl Words {
         requires { vec_len cells ≡ 32 * units }
         ensures { MatchResult result (λ n. MadeOf units (cells_word cells.items) acts n) (λ e. e ≡ NoMemory) }
     {
-        let Ok(holds) = vec![in heap; false; 4 * units] else {
-            return Err(Refusal::NoMemory);
-        };
+        let holds = vec![in heap; false; 4 * units]?;
         let mut pending = Pending::new(heap, 4 * units)?;
         list_unsettled(&mut pending, cells.as_slice());
         Ok(Words {
@@ -71,9 +69,7 @@ impl Words {
         ensures { MatchResult result (λ n. Made settled.items present.items marks.items acts n) (λ e. e ≡ NoMemory) }
     {
         let units = settled.len().min(present.len()).min(marks.len()) / 32;
-        let Ok(mut cells) = vec![in heap; Cell::Settled(0); 32 * units] else {
-            return Err(Refusal::NoMemory);
-        };
+        let mut cells = vec![in heap; Cell::Settled(0); 32 * units]?;
         fill(
             cells.as_mut_slice(),
             settled.as_slice(),
@@ -90,9 +86,7 @@ impl Words {
         if units > usize::MAX / 32 {
             return Err(Refusal::NoMemory);
         }
-        let Ok(cells) = vec![in heap; Cell::Settled(0); 32 * units] else {
-            return Err(Refusal::NoMemory);
-        };
+        let cells = vec![in heap; Cell::Settled(0); 32 * units]?;
         Words::made(heap, units, cells, acts)
     }
 }

@@ -2,11 +2,13 @@
 #![tactic(auto)]
 
 ghost use Rattle.std.specs.Prelude.{◌≡◌};
+ghost use Rattle.refusal.specs.declared.reason.Refusal.TheVariants.{NoMemory};
 ghost use Rattle.refusal.specs.Numbers.{number_of};
 
 pub mod reason;
 
 use reason::Refusal;
+use std::alloc::{AllocError, AllocFailed};
 
 impl Refusal {
     /// The number that stands for this refusal in answers and in documents.
@@ -36,5 +38,23 @@ impl Refusal {
             Refusal::NameLength => 42,
             Refusal::NameByte => 43,
         }
+    }
+}
+
+/// An allocation that fails is refused for want of memory.
+impl From<AllocError> for Refusal {
+    ghost from_gives = { λ _ e. e ≡ NoMemory };
+
+    fn from(_: AllocError) -> Refusal {
+        Refusal::NoMemory
+    }
+}
+
+/// So is a value that finds no room.
+impl<T: Drop> From<AllocFailed<T>> for Refusal {
+    ghost from_gives = { λ _ e. e ≡ NoMemory };
+
+    fn from(_: AllocFailed<T>) -> Refusal {
+        Refusal::NoMemory
     }
 }

@@ -29,12 +29,10 @@ fn read_settings<S: Source>(
     for (i, number) in numbers.iter().enumerate() {
         let place = place_after(places, first, i);
         let unit = load_unit(source, place + 1)?;
-        settings
-            .push(Setting {
-                number: *number,
-                unit,
-            })
-            .map_err(|_| Refusal::NoMemory)?;
+        settings.push(Setting {
+            number: *number,
+            unit,
+        })?;
     }
     Ok(settings)
 }
@@ -53,7 +51,7 @@ pub fn transactions<S: Source>(
     let mut newest_first = Vec::new(heap);
     while let Some(step) = walk.step()? {
         let settings = read_settings(heap, source, ring.places, step.first, step.numbers())?;
-        newest_first.push(settings).map_err(|_| Refusal::NoMemory)?;
+        newest_first.push(settings)?;
     }
     newest_first.reverse();
     Ok(newest_first)

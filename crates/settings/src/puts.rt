@@ -25,7 +25,7 @@ impl Settings {
     pub fn new(heap: Global) -> Result<Settings, Refusal>
         ensures { MatchResult result (λ s. list_of s ≡ []) (λ e. e ≡ NoMemory) }
     {
-        let list = Vec::with_capacity(heap, Settings::MOST).map_err(|_| Refusal::NoMemory)?;
+        let list = Vec::with_capacity(heap, Settings::MOST)?;
         Ok(Settings { list })
     }
 

@@ -14,8 +14,8 @@ impl Pending {
     pub fn new(heap: Global, size: usize) -> Result<Pending, Refusal>
         ensures { MatchResult result (λ p. (p.size ≡ size) × (lines_of p ≡ [])) (λ e. e ≡ NoMemory) }
     {
-        let flags = vec![in heap; false; size].map_err(|_| Refusal::NoMemory)?;
-        let queue = Vec::with_capacity(heap, size).map_err(|_| Refusal::NoMemory)?;
+        let flags = vec![in heap; false; size]?;
+        let queue = Vec::with_capacity(heap, size)?;
         Ok(Pending { size, flags, queue })
     }
 

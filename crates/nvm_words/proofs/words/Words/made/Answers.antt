@@ -8,7 +8,7 @@ use Rattle.nvm_words.proofs.words.Words.made.Goals as goal
 pub invariant_of-result : goal.invariant_of-result
 invariant_of-result c = record {
   cells_long = c.requires;
-  holds_long = c.in-Ok.ensures.len;
+  holds_long = c.in_ok-holds.ensures.len;
   covers = c.list_unsettled.ensures.size ∙ c.in_ok-pending.ensures.0;
   exact = made_exact c.args.cells.items _ (length c.as_slice.result.now / 8)
       (omega (arith, c.as_slice.ensures.len, c.args.cells.ok.0, c.requires))

@@ -29,11 +29,11 @@ returns c =
     let ps = c.args.present.items in
     let ms = c.args.marks.items in
     let units = c.min-units.result / 32 in
-    let v = c.in-Ok.cells in
+    let v = c.in_ok-cells.cells in
     let lent = c.as_mut_slice.result.now in
     let new = c.fill.new.cells in
     let size : units ≡ units_in ss ps ms = omega (arith, c.min-units.ensures, c.min.ensures, c.len.ensures, c.len-2.ensures, c.len-3.ensures, c.args.settled.ok.0, c.args.present.ok.0, c.args.marks.ok.0) in
-    let long : length new ≡ 32 * units = omega (arith, c.fill.auto.cells, c.as_mut_slice.ensures.len, c.in-Ok.ensures.len) in
+    let long : length new ≡ 32 * units = omega (arith, c.fill.auto.cells, c.as_mut_slice.ensures.len, c.in_ok-cells.ensures.len) in
     let filled = λ (w : ℕ) (lt : w < length new). c.fill.ensures w (omega (arith, lt, c.fill.auto.cells))
     ∙ ap (λ (xs : List ℕ). words_in xs c.as_slice-2.result.now c.as_slice-3.result.now w) c.as_slice.ensures.value
     ∙ ap (λ (xs : List ℕ). words_in ss xs c.as_slice-3.result.now w) c.as_slice-2.ensures.value

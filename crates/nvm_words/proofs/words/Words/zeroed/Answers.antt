@@ -20,4 +20,4 @@ by_cases units acts cs (Ok n) is h =
 by_cases units acts cs (Err e) is h = h
 
 pub returns : goal.returns
-returns c = by_cases c.args.units c.args.acts _ c.made.result (c.in-Ok.ensures.items_if_clones_equal (λ y e. e)) c.made.ensures
+returns c = by_cases c.args.units c.args.acts _ c.made.result (c.in_ok-cells.ensures.items_if_clones_equal (λ y e. e)) c.made.ensures
