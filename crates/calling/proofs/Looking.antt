@@ -1,6 +1,6 @@
 -- The unit of a record in a mounted store in order. Assumes nothing.
 use Rattle.std.proofs.Common.{◌≡◌, ℕ, ◌-◌, ◌/◌, ◌<◌, ◌≤◌, false, cond, ltb, List, Some, None, Ok, Err, Option, Result, unwrap_or, sym, refl, ap, ◌∙◌, arith}
-use Rattle.std.proofs.lemmas.Bool.{cond-true, cond-false, lt-ltb, le-ltb}
+use Rattle.std.proofs.lemmas.Bool.{cond-true, cond-false, or_from, lt-ltb, le-ltb}
 use Rattle.refusal.specs.declared.reason.Refusal.{Refusal}
 use Rattle.refusal.specs.declared.reason.Refusal.TheVariants.{Dark, NoSuchRecord}
 use Rattle.device.specs.Words.{NvmMeaning, words_of}
@@ -17,7 +17,6 @@ use Rattle.order.specs.Order.{InOrder}
 use Rattle.checkpointing.specs.Ready.{Ready}
 use Rattle.calling.specs.Seen.{seen}
 use Rattle.calling.specs.Reading.{unit_read}
-use Rattle.calling.proofs.Stepping.{neither_dark}
 use Rattle.calling.proofs.Mounted.{ready_at}
 
 module _ (nvm : NvmMeaning) (disk : DiskMeaning) (state : State) (list : Transaction) (r : ℕ) (lit : nvm.dark ≡ false) (also : disk.dark ≡ false) where
@@ -28,7 +27,7 @@ module _ (nvm : NvmMeaning) (disk : DiskMeaning) (state : State) (list : Transac
   by_number = cond (ltb r (records_of disk.size)) (Ok (lay list (table_of m) r)) (Err NoSuchRecord)
 
   lit_read : unit_read m r ≡ by_number
-  lit_read = cond-false (is_dark m.devices) (Err Dark) by_number (neither_dark nvm.dark disk.dark lit also)
+  lit_read = cond-false (is_dark m.devices) (Err Dark) by_number (or_from nvm.dark disk.dark lit also)
 
   -- the number is beyond the disk
   pub no_such : disk.size ≤ r / 16 → Err NoSuchRecord ≡ unit_read m r

@@ -1,6 +1,6 @@
 -- Steps of a checkpoint on a mounted store in order. Assumes nothing.
 use Rattle.std.proofs.Common.{◌≡◌, ℕ, ◌-◌, ◌≤◌, false, ◌&&◌, ltb, leb, List, IfOk, None, Ok, Err, Option, Result, sym, refl, ap, subst, arith}
-use Rattle.std.proofs.lemmas.Bool.{and_from, le-leb, lt-ltb}
+use Rattle.std.proofs.lemmas.Bool.{and_from, or_from, le-leb, lt-ltb}
 use Rattle.refusal.specs.declared.reason.Refusal.{Refusal}
 use Rattle.device.specs.Words.{NvmMeaning, words_of}
 use Rattle.device.specs.Sectors.{DiskMeaning, sectors_of}
@@ -22,7 +22,7 @@ use Rattle.acting.specs.Ends.{RanOrCut}
 use Rattle.acting.proofs.Running.{ran_or_cut}
 use Rattle.checkpointing.specs.Ready.{Ready}
 use Rattle.calling.specs.Seen.{seen, done_answer, blocks_answer, if_done}
-use Rattle.calling.proofs.Stepping.{neither_dark, by_plan, cut_by_plan}
+use Rattle.calling.proofs.Stepping.{by_plan, cut_by_plan}
 
 -- a mounted store may be checkpointed
 passes : {R : Type 0} (kind : Kind R) (s : State) → (s ≡ Unmounted → ⊥) → judge {R = R} s Checkpoint ≡ None
@@ -39,7 +39,7 @@ module _ (nvm : NvmMeaning) (disk : DiskMeaning) (state : State) (list : Transac
 
   module _ (lit : nvm.dark ≡ false) (also : disk.dark ≡ false) (mounted : state ≡ Unmounted → ⊥) (order : InOrder m) where
     o : Own (both nvm disk) (ring m) (table_of m)
-    o = own (places_of m) (blocks_of m) (both nvm disk) (ring m) (table_of m) (order.mounted (neither_dark nvm.dark disk.dark lit also) mounted)
+    o = own (places_of m) (blocks_of m) (both nvm disk) (ring m) (table_of m) (order.mounted (or_from nvm.dark disk.dark lit also) mounted)
 
     -- there is a unit 0
     pub has_unit : 1 ≤ nvm.size
@@ -92,12 +92,12 @@ checkpoint_stepped {R} kind nvm disk state list lit also mounted n d (Ok k) ran 
     let m : Machine = seen nvm disk state list in
     by_plan kind m Checkpoint (checkpoint_plan kind m (Blocks (named_blocks (blocks_of m) (ring m))) state) (Blocks k) (seen n d state list)
     (ap (λ (v : Option Refusal). plan_by kind m v Checkpoint) (passes kind state mounted))
-    (record { before = neither_dark nvm.dark disk.dark lit also; says = ap Blocks counted; acts = ran; state = refl; list = refl })
+    (record { before = or_from nvm.dark disk.dark lit also; says = ap Blocks counted; acts = ran; state = refl; list = refl })
 checkpoint_stepped {R} kind nvm disk state list lit also mounted n d (Err e) ran _ =
     let m : Machine = seen nvm disk state list in
     cut_by_plan kind m Checkpoint (checkpoint_plan kind m (Blocks (named_blocks (blocks_of m) (ring m))) state) (Refused e) (seen n d state list)
     (ap (λ (v : Option Refusal). plan_by kind m v Checkpoint) (passes kind state mounted))
-    (record { before = neither_dark nvm.dark disk.dark lit also; says = ap Refused ran.0; acts = ran.1; state = refl; list = refl })
+    (record { before = or_from nvm.dark disk.dark lit also; says = ap Refused ran.0; acts = ran.1; state = refl; list = refl })
 
 -- a close by its plan
 pub close_stepped : {R : Type 0} (kind : Kind R) (nvm : NvmMeaning) (disk : DiskMeaning) (list : Transaction)
@@ -107,8 +107,8 @@ pub close_stepped : {R : Type 0} (kind : Kind R) (nvm : NvmMeaning) (disk : Disk
 close_stepped kind nvm disk list lit also n d (Ok k) ran =
     let m : Machine = seen nvm disk Idle list in
     by_plan kind m Close (checkpoint_plan kind m Done Unmounted) Done (seen n d Unmounted list) refl
-    (record { before = neither_dark nvm.dark disk.dark lit also; says = refl; acts = ran; state = refl; list = refl })
+    (record { before = or_from nvm.dark disk.dark lit also; says = refl; acts = ran; state = refl; list = refl })
 close_stepped kind nvm disk list lit also n d (Err e) ran =
     let m : Machine = seen nvm disk Idle list in
     cut_by_plan kind m Close (checkpoint_plan kind m Done Unmounted) (Refused e) (seen n d Idle list) refl
-    (record { before = neither_dark nvm.dark disk.dark lit also; says = ap Refused ran.0; acts = ran.1; state = refl; list = refl })
+    (record { before = or_from nvm.dark disk.dark lit also; says = ap Refused ran.0; acts = ran.1; state = refl; list = refl })

@@ -1,6 +1,6 @@
 -- Steps of calls that act on the devices of a store. Assumes nothing.
-use Rattle.std.proofs.Common.{◌≡◌, ℕ, ◌-◌, Bool, true, false, ◌||◌, [], Ok, Err, Result, sym, refl, ap, subst}
-use Rattle.std.proofs.lemmas.Bool.{cond-true, cond-false}
+use Rattle.std.proofs.Common.{◌≡◌, ℕ, ◌-◌, Bool, true, false, [], Ok, Err, Result, sym, refl, ap, subst}
+use Rattle.std.proofs.lemmas.Bool.{cond-true, cond-false, or_from}
 use Rattle.refusal.specs.declared.reason.Refusal.{Refusal}
 use Rattle.refusal.specs.declared.reason.Refusal.TheVariants.{Dark, BadSize}
 use Rattle.device.specs.Words.{NvmMeaning}
@@ -35,11 +35,6 @@ module _ {R : Type 0} (kind : Kind R) (m : Machine) (call : Call R) where
   pub cut_by_plan : (plan : Plan R) (a : Answer R) (n : Machine) → plan_of kind m call ≡ plan → WentDark plan m a n → Step kind m call a n
   cut_by_plan plan a n e w = went_dark (subst (λ (p : Plan R). WentDark p m a n) (sym e) w)
 
--- both devices have power
-pub neither_dark : (x y : Bool) → x ≡ false → y ≡ false → x || y ≡ false
-neither_dark true y h k = h
-neither_dark false y h k = k
-
 -- the sizes, as the devices answer them
 pub sizes : (u v b w : ℕ) (x : Bool) → u ≡ v → b ≡ w → fit_sizes u b ≡ x → fit_sizes v w ≡ x
 sizes u v b w x p q h = subst (λ (i : ℕ). fit_sizes i w ≡ x) p (subst (λ (j : ℕ). fit_sizes u j ≡ x) q h)
@@ -58,7 +53,7 @@ module _ {R : Type 0} (kind : Kind R) (nvm : NvmMeaning) (disk : DiskMeaning) (l
   pub format_refused_lem : nvm.dark ≡ false → disk.dark ≡ false → fit_sizes nvm.size disk.size ≡ false → Step kind m Format (Refused BadSize) m
   format_refused_lem lit also h =
       by_plan kind m Format (refusing m BadSize) (Refused BadSize) m (cond-false (fit_sizes nvm.size disk.size) plan (refusing m BadSize) h)
-      (record { before = neither_dark nvm.dark disk.dark lit also; says = refl; acts = done; state = refl; list = refl })
+      (record { before = or_from nvm.dark disk.dark lit also; says = refl; acts = done; state = refl; list = refl })
 
   pub format_stepped : nvm.dark ≡ false → disk.dark ≡ false → fit_sizes nvm.size disk.size ≡ true → EndsThere m
       → (n : NvmMeaning) (d : DiskMeaning) (r : Result (Unit {0}) Refusal) → RanPair (both nvm disk) (format_acts (nvm.size - 1) disk.size) r (both n d)
@@ -71,7 +66,7 @@ module _ {R : Type 0} (kind : Kind R) (nvm : NvmMeaning) (disk : DiskMeaning) (l
           → Step kind m Format (done_answer r) (seen n d Unmounted (if_done r [] list))
       go (Ok v) p =
           by_plan kind m Format plan Done (seen n d Unmounted []) (cond-true (fit_sizes nvm.size disk.size) plan (refusing m BadSize) h)
-          (record { before = neither_dark nvm.dark disk.dark lit also; says = refl; acts = p; state = refl; list = refl })
+          (record { before = or_from nvm.dark disk.dark lit also; says = refl; acts = p; state = refl; list = refl })
       go (Err e) p =
           cut_by_plan kind m Format plan (Refused e) (seen n d Unmounted list) (cond-true (fit_sizes nvm.size disk.size) plan (refusing m BadSize) h)
-          (record { before = neither_dark nvm.dark disk.dark lit also; says = ap Refused p.0; acts = p.1; state = refl; list = refl })
+          (record { before = or_from nvm.dark disk.dark lit also; says = ap Refused p.0; acts = p.1; state = refl; list = refl })

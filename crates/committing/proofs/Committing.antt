@@ -1,6 +1,6 @@
 -- Steps of a commit on a store in order with an open transaction. Assumes nothing.
 use Rattle.std.proofs.Common.{◌≡◌, ℕ, ◌+◌, ◌-◌, ◌<◌, ◌≤◌, true, false, ◌&&◌, ltb, leb, [], ◌∷◌, length, IsErrAnd, Ok, Err, Result, sym, refl, ap, subst, arith}
-use Rattle.std.proofs.lemmas.Bool.{cond-true, cond-false, and_parts, leb-true, ltb-true, ltb-false}
+use Rattle.std.proofs.lemmas.Bool.{cond-true, cond-false, and_parts, or_from, leb-true, ltb-true, ltb-false}
 use Rattle.refusal.specs.declared.reason.Refusal.{Refusal}
 use Rattle.refusal.specs.declared.reason.Refusal.TheVariants.{RingFull}
 use Rattle.device.specs.Words.{NvmMeaning, words_of}
@@ -19,7 +19,7 @@ use Rattle.order.specs.Order.{InOrder, EndsThere}
 use Rattle.order.proofs.Accepted.{only_darkness_stops_calls}
 use Rattle.acting.proofs.Running.{ran_or_cut}
 use Rattle.calling.specs.Seen.{seen, used_answer, if_done}
-use Rattle.calling.proofs.Stepping.{neither_dark, by_plan, cut_by_plan}
+use Rattle.calling.proofs.Stepping.{by_plan, cut_by_plan}
 use Rattle.calling.proofs.Mounted.{ready_at}
 use Rattle.committing.specs.Room.{HasRoom, LacksRoom}
 
@@ -80,7 +80,7 @@ module _ {R : Type 0} (kind : Kind R) (nvm : NvmMeaning) (disk : DiskMeaning) (l
   full N p e lacks =
       let k = subst (λ (i : ℕ). LacksRoom i (words_of nvm) list e) p lacks is_ring_lem order.settings.most in
       by_plan kind m Commit (refusing m RingFull) (Refused e) m (cond-true (is_full (nvm.size - 1) (words_of nvm) list) (refusing m RingFull) plan k.0)
-      (record { before = neither_dark nvm.dark disk.dark lit also; says = ap Refused k.1; acts = done; state = refl; list = refl })
+      (record { before = or_from nvm.dark disk.dark lit also; says = ap Refused k.1; acts = done; state = refl; list = refl })
 
   -- there is
   module _ (ends : EndsThere m) (N u : ℕ) (p : N ≡ nvm.size - 1) (room : HasRoom N (words_of nvm) list u) where
@@ -93,13 +93,13 @@ module _ {R : Type 0} (kind : Kind R) (nvm : NvmMeaning) (disk : DiskMeaning) (l
     accepts : PairAccepts (both nvm disk) (commit_acts (nvm.size - 1) (words_of nvm) list)
     accepts =
         subst (λ (q : Plan R). PairAccepts (both nvm disk) q.acts) plan_is
-        (only_darkness_stops_calls kind m Commit order ends (neither_dark nvm.dark disk.dark lit also))
+        (only_darkness_stops_calls kind m Commit order ends (or_from nvm.dark disk.dark lit also))
 
     pub committed : (n : NvmMeaning) → PerformedPair (both nvm disk) (commit_acts N (words_of nvm) list) (both n disk) → Step kind m Commit (Used u) (seen n disk Idle [])
     committed n ran =
         by_plan kind m Commit plan (Used u) (seen n disk Idle []) plan_is
         (record {
-          before = neither_dark nvm.dark disk.dark lit also;
+          before = or_from nvm.dark disk.dark lit also;
           says = ap Used own_room.then;
           acts = subst (λ (i : ℕ). PerformedPair (both nvm disk) (commit_acts i (words_of nvm) list) (both n disk)) p ran;
           state = refl;
@@ -111,7 +111,7 @@ module _ {R : Type 0} (kind : Kind R) (nvm : NvmMeaning) (disk : DiskMeaning) (l
         let q = ran_or_cut {V = ℕ} (commit_acts (nvm.size - 1) (words_of nvm) list) (both nvm disk) (both n disk) (Err e) accepts
         (subst (λ (i : ℕ). HaltedPair (both nvm disk) (commit_acts i (words_of nvm) list) e (both n disk)) p halted) in
         cut_by_plan kind m Commit plan (Refused e) (seen n disk Open list) plan_is
-        (record { before = neither_dark nvm.dark disk.dark lit also; says = ap Refused q.0; acts = q.1; state = refl; list = refl })
+        (record { before = or_from nvm.dark disk.dark lit also; says = ap Refused q.0; acts = q.1; state = refl; list = refl })
 
 -- a refusal that is handed on is the same answer, and leaves the transaction open
 pub handed_on_lem : {R : Type 0} (kind : Kind R) (m : Machine) (n : NvmMeaning) (d : DiskMeaning) (list : Transaction) (e : Refusal) (r : Result ℕ Refusal) → IsErrAnd r (λ y. y ≡ e)

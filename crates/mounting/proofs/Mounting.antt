@@ -1,6 +1,6 @@
 -- Steps of a mount, on devices with whatever contents. Assumes nothing.
 use Rattle.std.proofs.Common.{◌≡◌, ℕ, ◌+◌, ◌-◌, ◌≤◌, true, false, ◌&&◌, ltb, leb, List, IsErrAnd, IfOk, Some, None, Ok, Err, Option, Result, sym, refl, ap, ◌∙◌, subst, arith}
-use Rattle.std.proofs.lemmas.Bool.{cond-true, cond-false, and_from, le-leb, lt-ltb}
+use Rattle.std.proofs.lemmas.Bool.{cond-true, cond-false, and_from, or_from, le-leb, lt-ltb}
 use Rattle.refusal.specs.declared.reason.Refusal.{Refusal}
 use Rattle.refusal.specs.declared.reason.Refusal.TheVariants.{BadSize}
 use Rattle.device.specs.Words.{NvmMeaning, words_of, nvm_rules}
@@ -32,7 +32,7 @@ use Rattle.acting.specs.Ends.{RanOrCut}
 use Rattle.acting.proofs.Running.{ran_or_cut, pair_at_last}
 use Rattle.checkpointing.specs.Ready.{Ready}
 use Rattle.calling.specs.Seen.{seen, blocks_answer, if_done}
-use Rattle.calling.proofs.Stepping.{neither_dark, by_plan, cut_by_plan}
+use Rattle.calling.proofs.Stepping.{by_plan, cut_by_plan}
 
 -- a refusal that is handed on is the same answer, and leaves the store unmounted
 pub handed_on_lem : {R : Type 0} (kind : Kind R) (m : Machine) (n : NvmMeaning) (d : DiskMeaning) (list : Transaction) (e : Refusal) (r : Result ℕ Refusal) → IsErrAnd r (λ y. y ≡ e)
@@ -60,7 +60,7 @@ module _ {R : Type 0} (kind : Kind R) (nvm : NvmMeaning) (disk : DiskMeaning) (l
   pub unfit : fit_sizes nvm.size disk.size ≡ false → Step kind m Mount (Refused BadSize) m
   unfit h =
       by_plan kind m Mount (refusing m BadSize) (Refused BadSize) m (cond-false (fit_sizes nvm.size disk.size) (mount_by kind m refusal) (refusing m BadSize) h)
-      (record { before = neither_dark nvm.dark disk.dark lit also; says = refl; acts = done; state = refl; list = refl })
+      (record { before = or_from nvm.dark disk.dark lit also; says = refl; acts = done; state = refl; list = refl })
 
   module _ (ends : EndsThere m) (fit : fit_sizes nvm.size disk.size ≡ true) where
     plan_is : (o : Option Refusal) → refusal ≡ o → plan_of kind m Mount ≡ mount_by kind m o
@@ -75,7 +75,7 @@ module _ {R : Type 0} (kind : Kind R) (nvm : NvmMeaning) (disk : DiskMeaning) (l
     stopped o is e n d h =
         let p = ran_or_cut {V = ℕ} (mount_by kind m o).acts (both nvm disk) (both n d) (Err e) (accepts o is) h in
         cut_by_plan kind m Mount (mount_by kind m o) (Refused e) (seen n d Unmounted list) (plan_is o is)
-        (record { before = neither_dark nvm.dark disk.dark lit also; says = ap Refused p.0; acts = p.1; state = refl; list = refl })
+        (record { before = or_from nvm.dark disk.dark lit also; says = ap Refused p.0; acts = p.1; state = refl; list = refl })
 
     pub settling_stopped : (e : Refusal) (n : NvmMeaning) (d : DiskMeaning) → HaltedPair (both nvm disk) (settling_both nvm.size) e (both n d)
         → Step kind m Mount (Refused e) (seen n d Unmounted list)
@@ -127,7 +127,7 @@ module _ {R : Type 0} (kind : Kind R) (nvm : NvmMeaning) (disk : DiskMeaning) (l
           → Step kind m Mount (Refused e) (seen nvm' disk' Unmounted list)
       contents_refused N B p q e h =
           by_plan kind m Mount (mount_by kind m (Some e)) (Refused e) (seen nvm' disk' Unmounted list) (plan_is (Some e) (refusal_then N B p q (Some e) h))
-          (record { before = neither_dark nvm.dark disk.dark lit also; says = refl; acts = settled; state = refl; list = refl })
+          (record { before = or_from nvm.dark disk.dark lit also; says = refl; acts = settled; state = refl; list = refl })
 
       -- or they hold a table
       module _ (N B h t : ℕ) (p : N ≡ nvm.size - 1) (q : B ≡ disk.size) (x : h ≡ head_of (words_of nvm')) (y : t ≡ tail_of (words_of nvm'))
@@ -177,7 +177,7 @@ module _ {R : Type 0} (kind : Kind R) (nvm : NvmMeaning) (disk : DiskMeaning) (l
                 → Step kind m Mount (blocks_answer r) (seen n d (if_done r Idle Unmounted) list)
             go (Ok k) performed e =
                 by_plan kind m Mount (mount_by kind m None) (Blocks k) (seen n d Idle list) (plan_is None is)
-                (record { before = neither_dark nvm.dark disk.dark lit also; says = ap Blocks e; acts = performed; state = refl; list = refl })
+                (record { before = or_from nvm.dark disk.dark lit also; says = ap Blocks e; acts = performed; state = refl; list = refl })
             go (Err e) (dark, cut) c =
                 cut_by_plan kind m Mount (mount_by kind m None) (Refused e) (seen n d Unmounted list) (plan_is None is)
-                (record { before = neither_dark nvm.dark disk.dark lit also; says = ap Refused dark; acts = cut; state = refl; list = refl })
+                (record { before = or_from nvm.dark disk.dark lit also; says = ap Refused dark; acts = cut; state = refl; list = refl })

@@ -1,5 +1,5 @@
 -- How a script goes on, line by line. Assumes nothing.
-use Rattle.std.proofs.Common.{◌≡◌, ℕ, ◌+◌, ◌<◌, ◌≤◌, Bool, false, List, [], ◌∷◌, ◌++◌, length, Option, sym, refl, ap, ◌∙◌, subst, append_assoc, append-nil, arith, length-append}
+use Rattle.std.proofs.Common.{◌≡◌, ℕ, ◌+◌, ◌≤◌, Bool, false, List, [], ◌∷◌, ◌++◌, length, Option, sym, refl, ap, ◌∙◌, subst, append_assoc, append-nil, arith, length-append}
 use Rattle.joined.specs.declared.record.Joined.{Joined}
 use Rattle.lines.specs.Pieces.{parted, lines_of}
 use Rattle.calls.specs.declared.answer.Answer.{Answer}
@@ -9,7 +9,6 @@ use Rattle.promise.specs.Told.{Performs}
 use Rattle.promise.proofs.Lists.{no_requests, lists_join}
 use Rattle.commands.specs.Commands.{Asked, command_of}
 use Rattle.printing.specs.declared.detail.Detail.{Detail}
-use Rattle.printing.specs.declared.detail.Detail.TheVariants as detail
 use Rattle.printing.specs.Texts.{line_text}
 use Rattle.session.specs.Said.{tiles_and_masts, letter_of}
 use Rattle.session.specs.Lines.{Line, unread, ticketless, unmade, made, back, LineWritten, GivenUp, Lines, none, next, joined_texts, most_bytes, Progress, Script, Runs}
@@ -98,6 +97,3 @@ ended m input number output n p held all up =
 -- the whole script, long or not
 pub runs : (m : Machine) (input output : List ℕ) (n : Machine) → length input ≤ most_bytes → Script m input output n → Runs m input output n
 runs m input output n few s = ((λ h. s), λ many. absurd (omega (arith, few, many)))
-
-pub too_long : (m : Machine) (input output : List ℕ) → most_bytes < length input → output ≡ line_text 0 117 91 detail.Nothing → Runs m input output m
-too_long m input output many is = ((λ few. absurd (omega (arith, few, many))), λ h. record { output_is = is; same = refl })

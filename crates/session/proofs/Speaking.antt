@@ -17,10 +17,11 @@ use Rattle.promise.specs.declared.request.Request.{Request}
 use Rattle.promise.specs.declared.request.Request.TheVariants.{Call as aCall, Restart}
 use Rattle.promise.specs.Told.{Performs}
 use Rattle.promise.proofs.Lists.{no_requests, lists_join}
+use Rattle.commands.specs.declared.command.Command.{Command}
 use Rattle.commands.specs.declared.command.Contents.{Contents}
 use Rattle.device.specs.declared.comeback.Comeback.{Comeback}
 use Rattle.commands.specs.Comebacks.{comeback_of}
-use Rattle.commands.specs.Commands.{Wanted, Asked, set, restart}
+use Rattle.commands.specs.Commands.{Wanted, Asked, asked, set, restart}
 use Rattle.commands.specs.Records.{Fulfils}
 use Rattle.printing.specs.declared.detail.Detail.{Detail}
 use Rattle.printing.specs.declared.detail.Detail.TheVariants as detail
@@ -31,7 +32,7 @@ use Rattle.session.specs.Lines.{Makes, sets, return_of, leaving, Line, made, Lin
 use Rattle.session.specs.Lines as spec
 
 -- a call's answer is the line's
-pub said_by : (m : Machine) (held : Bool) (c : Asked) (k : Call Joined) (number : ℕ) (said : Detail) (n : Machine) (after : Bool)
+said_by : (m : Machine) (held : Bool) (c : Asked) (k : Call Joined) (number : ℕ) (said : Detail) (n : Machine) (after : Bool)
     → (needs_ticket c ≡ true → held ≡ true) → Makes c k → CallSaid m held c k number said n after → LineSaid m held (Some c) number said n after
 said_by m held c k number said n after ticket makes s = record {
   requests = aCall k ∷ [];
@@ -43,38 +44,30 @@ said_by m held c k number said n after ticket makes s = record {
       (made ticket makes s.performed)));
 }
 
--- the same, or want of memory
-pub spoken : (m : Machine) (held : Bool) (x : Option Asked) (c : Asked) (k : Call Joined) (n : Machine) (after : Bool) (r : Result (Result Detail Complaint) Refusal) → x ≡ Some c
-    → (needs_ticket c ≡ true → held ≡ true) → Makes c k
-    → MatchResult r (λ s. CallSaid m held c k (number_shown s) (detail_shown s) n after) (λ e. e ≡ NoMemory)
-    → MatchResult r (λ s. LineSaid m held x (number_shown s) (detail_shown s) n after) (λ e. e ≡ NoMemory)
-spoken m held x c k n after (Ok s) is ticket makes h =
-    subst (λ (y : Option Asked). LineSaid m held y (number_shown s) (detail_shown s) n after) (sym is) (said_by m held c k (number_shown s) (detail_shown s) n after ticket makes h)
-spoken m held x c k n after (Err e) is ticket makes h = h
-
--- of a call that leaves the ticket
-pub spoken_plainly : (m : Machine) (held : Bool) (x : Option Asked) (c : Asked) (k : Call Joined) (n : Machine) (after : Bool) (r : Result (Result Detail Complaint) Refusal) → x ≡ Some c
-    → (needs_ticket c ≡ true → held ≡ true) → Makes c k → ((a : Answer Joined) → held_after held c a ≡ held)
-    → MatchResult r (λ s. (c : Asked) → ((a : Answer Joined) → held_after held c a ≡ held) → CallSaid m held c k (number_shown s) (detail_shown s) n after) (λ e. e ≡ NoMemory)
-    → MatchResult r (λ s. LineSaid m held x (number_shown s) (detail_shown s) n after) (λ e. e ≡ NoMemory)
-spoken_plainly m held x c k n after (Ok s) is ticket makes leaves h =
-    subst (λ (y : Option Asked). LineSaid m held y (number_shown s) (detail_shown s) n after) (sym is) (said_by m held c k (number_shown s) (detail_shown s) n after ticket makes (h c leaves))
-spoken_plainly m held x c k n after (Err e) is ticket makes leaves h = h
-
--- no command asked for a ticket that does not need one
-pub unneeded : {X : Type 0} → false ≡ true → X
-unneeded h = let z : ◌≡◌ {A = ℕ} 0 1 = cc in absurd (omega arith)
-
 -- a ticket is held, or none is needed
-pub has_ticket : (x y : Bool) → x && not y ≡ false → x ≡ true → y ≡ true
+has_ticket : (x y : Bool) → x && not y ≡ false → x ≡ true → y ≡ true
 has_ticket x true h k = refl
-has_ticket true false h k = unneeded (sym h)
-has_ticket false false h k = unneeded k
+has_ticket true false h k = sym h
+has_ticket false false h k = k
 
-pub no_ticket : (x y : Bool) → x && not y ≡ true → (x ≡ true) × (y ≡ false)
-no_ticket true true h = unneeded h
-no_ticket true false h = (refl, refl)
-no_ticket false y h = unneeded h
+-- a command that has a ticket if it needs one
+pub ticket_held : {q p : Command} (held : Bool) {lacks : Bool} → lacks ≡ (needs_ticket (asked q) && not held) → lacks ≡ false → q ≡ p → needs_ticket (asked p) ≡ true → held ≡ true
+ticket_held {q = q} held tested goes_on is h = has_ticket (needs_ticket (asked q)) held (sym tested ∙ goes_on) (ap (λ (x : Command). needs_ticket (asked x)) is ∙ h)
+
+-- what is said by the call that a command makes, or want of memory
+module _ (m : Machine) (held : Bool) (q p : Command) (is : q ≡ p) (ticket : needs_ticket (asked p) ≡ true → held ≡ true) (k : Call Joined) (makes : Makes (asked p) k) (n : Machine) (after : Bool) where
+  pub spoken : (r : Result (Result Detail Complaint) Refusal)
+      → MatchResult r (λ s. CallSaid m held (asked p) k (number_shown s) (detail_shown s) n after) (λ e. e ≡ NoMemory)
+      → MatchResult r (λ s. LineSaid m held (Some (asked q)) (number_shown s) (detail_shown s) n after) (λ e. e ≡ NoMemory)
+  spoken (Ok s) h = subst (λ (x : Command). LineSaid m held (Some (asked x)) (number_shown s) (detail_shown s) n after) (sym is) (said_by m held (asked p) k (number_shown s) (detail_shown s) n after ticket makes h)
+  spoken (Err e) h = h
+
+  -- of a call that leaves the ticket
+  pub spoken_plainly : (r : Result (Result Detail Complaint) Refusal) → ((a : Answer Joined) → held_after held (asked p) a ≡ held)
+      → MatchResult r (λ s. (c : Asked) → ((a : Answer Joined) → held_after held c a ≡ held) → CallSaid m held c k (number_shown s) (detail_shown s) n after) (λ e. e ≡ NoMemory)
+      → MatchResult r (λ s. LineSaid m held (Some (asked q)) (number_shown s) (detail_shown s) n after) (λ e. e ≡ NoMemory)
+  spoken_plainly (Ok s) leaves h = spoken (Ok s) (h (asked p) leaves)
+  spoken_plainly (Err e) leaves h = h
 
 -- lines that call nothing
 pub said_nothing : (m : Machine) (held : Bool) (x : Option Asked) (number n : ℕ) (said : Detail) → number ≡ n → said ≡ detail.Nothing → Line m held x [] [] n detail.Nothing m held
@@ -141,18 +134,6 @@ pub spoken_set : (m : Machine) (held : Bool) (x : ℕ) (w : Wanted) (v : Joined)
 spoken_set m held x w v n after (Ok s) f h = λ is. said_by m held (set x w) (call.Set x v) (number_shown s) (detail_shown s) n after (λ k. is) (sets f) (h (set x w) (λ a. refl))
 spoken_set m held x w v n after (Err e) f h = h
 
--- lines by another name of what they ask
-pub renamed : (m : Machine) (held : Bool) (x y : Option Asked) (n : Machine) (after : Bool) (r : Result (Result Detail Complaint) Refusal) → x ≡ y
-    → MatchResult r (λ s. LineSaid m held y (number_shown s) (detail_shown s) n after) (λ e. e ≡ NoMemory)
-    → MatchResult r (λ s. LineSaid m held x (number_shown s) (detail_shown s) n after) (λ e. e ≡ NoMemory)
-renamed m held x y n after (Ok s) is h = subst (λ (z : Option Asked). LineSaid m held z (number_shown s) (detail_shown s) n after) (sym is) h
-renamed m held x y n after (Err e) is h = h
-
-pub with_ticket : (m : Machine) (held : Bool) (x y : Option Asked) (n : Machine) (after : Bool) (r : Result (Result Detail Complaint) Refusal) → x ≡ y → held ≡ true
-    → MatchResult r (λ s. held ≡ true → LineSaid m held y (number_shown s) (detail_shown s) n after) (λ e. e ≡ NoMemory)
-    → MatchResult r (λ s. LineSaid m held x (number_shown s) (detail_shown s) n after) (λ e. e ≡ NoMemory)
-with_ticket m held x y n after (Ok s) is ticket h = subst (λ (z : Option Asked). LineSaid m held z (number_shown s) (detail_shown s) n after) (sym is) (h ticket)
-with_ticket m held x y n after (Err e) is ticket h = h
-
+-- a line of another form
 pub another_form : (m : Machine) (held : Bool) (x : Option Asked) (number : ℕ) (said : Detail) → None ≡ x → number ≡ 90 → said ≡ detail.Nothing → LineSaid m held x number said m held
 another_form m held x number said is p q = subst (λ (z : Option Asked). LineSaid m held z number said m held) is (said_nothing m held None number 90 said p q spec.unread)

@@ -3,7 +3,7 @@ use Rattle.std.proofs.Common.{◌≡◌, ℕ, List, [], ℤ, Some, None, Option,
 use Rattle.std.specs.Option.{option_map}
 use Rattle.lines.specs.Fields.{field_at, word_at, level_at}
 use Rattle.commands.specs.declared.command.Order.{Order}
-use Rattle.commands.specs.Commands.{Wanted, ordered, format, mount, begin, commit, abandon, checkpoint, close, clear, show, set, restart}
+use Rattle.commands.specs.Commands.{ordered, format, mount, begin, commit, abandon, checkpoint, close, clear, show, set, restart}
 use Rattle.commands.specs.Commands as commands
 use Rattle.workbench.specs.Orders.{Asked, tile, mast, asked_of, asked, given, tile_in, mast_in}
 

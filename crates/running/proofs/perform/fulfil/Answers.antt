@@ -10,8 +10,8 @@ use Rattle.promise.specs.Told.{Performs}
 use Rattle.promise.proofs.Lists.{no_requests, one_call_more, one_restart_more}
 use Rattle.running.proofs.perform.fulfil.Goals as goal
 
-pub returns-in-Call : goal.returns-in-Call
-returns-in-Call g c =
+pub returns-in-Call-clause-promise : goal.returns-in-Call-clause-promise
+returns-in-Call-clause-promise g c =
     let kind = kind_of g.K.RecordKind.unit g.K.RecordKind.reads in
     let lawful : Lawful kind = record {
       whole = g.met.K.RecordKind.whole;
@@ -21,12 +21,11 @@ returns-in-Call g c =
     } in
     let m : Machine = machine c.args.engine.now in
     let there : EndsThere m = ends c.args.engine.now g.met.N.Nvm.ends g.met.D.Disk.ends in
-    let promise = subst (λ (x : Request g.row.K-Record.Denot). Performs kind m (x ∷ []) (c.perform.result ∷ []) (machine c.perform.new.engine)) (sym c.in-Call.is)
-    (one_call_more kind lawful m m (machine c.perform.new.engine) [] [] c.in-Call.call c.perform.result (no_requests kind lawful m) there (λ _. c.perform.ensures.step)) in
-    record { promise = promise; back = rw c.in-Call.is tt }
+    subst (λ (x : Request g.row.K-Record.Denot). Performs kind m (x ∷ []) (c.perform.result ∷ []) (machine c.perform.new.engine)) (sym c.in-Call.is)
+    (one_call_more kind lawful m m (machine c.perform.new.engine) [] [] c.in-Call.call c.perform.result (no_requests kind lawful m) there (λ _. c.perform.ensures.step))
 
-pub returns-in-Restart : goal.returns-in-Restart
-returns-in-Restart g c =
+pub returns-in-Restart-clause-promise : goal.returns-in-Restart-clause-promise
+returns-in-Restart-clause-promise g c =
     let kind = kind_of g.K.RecordKind.unit g.K.RecordKind.reads in
     let lawful : Lawful kind = record {
       whole = g.met.K.RecordKind.whole;
@@ -35,6 +34,5 @@ returns-in-Restart g c =
       only = g.met.K.RecordKind.only;
     } in
     let m : Machine = machine c.args.engine.now in
-    let promise = subst (λ (x : Request g.row.K-Record.Denot). Performs kind m (x ∷ []) (Done ∷ []) (machine c.restart.new.engine)) (sym c.in-Restart.is)
-    (one_restart_more kind lawful m m (machine c.restart.new.engine) [] [] c.in-Restart.back (no_requests kind lawful m) c.restart.ensures.restarted) in
-    record { promise = promise; back = rw c.in-Restart.is (c.restart.ensures.nvm, c.restart.ensures.disk) }
+    subst (λ (x : Request g.row.K-Record.Denot). Performs kind m (x ∷ []) (Done ∷ []) (machine c.restart.new.engine)) (sym c.in-Restart.is)
+    (one_restart_more kind lawful m m (machine c.restart.new.engine) [] [] c.in-Restart.back (no_requests kind lawful m) c.restart.ensures.restarted)

@@ -37,20 +37,6 @@ loop-request-preserved g c =
           c.loop-request-test.true c.request-item.is c.push_reserved.ensures.items c.loop-request.invariant.2 c.fulfil-answer.ensures.promise,
     )
 
-pub push_reserved-requires : goal.push_reserved-requires
-push_reserved-requires g c =
-    let many = c.loop-request.invariant.0 in
-    let room = c.loop-request.invariant.1 in
-    let lt = c.loop-request-test.true in
-    omega (arith, many, room, lt)
-
-pub returns : goal.returns
-returns g c =
-    let many = c.loop-request.invariant.0 in
-    let long = c.loop-request.answers.ok.0 in
-    let all = c.loop-request-test.false in
-    let some = c.loop-request.auto.request-index-end in
-    record {
-      each = omega (arith, many, long, all, some);
-      promise = all_done (kind_of g.K.RecordKind.unit g.K.RecordKind.reads) _ _ c.args.requests.now c.loop-request.request-index _ c.loop-request-test.false c.loop-request.invariant.2;
-    }
+pub returns-clause-promise : goal.returns-clause-promise
+returns-clause-promise g c =
+    all_done (kind_of g.K.RecordKind.unit g.K.RecordKind.reads) _ _ c.args.requests.now c.loop-request.request-index _ c.loop-request-test.false c.loop-request.invariant.2

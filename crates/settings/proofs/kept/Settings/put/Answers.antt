@@ -1,4 +1,4 @@
-use Rattle.std.proofs.Common.{◌<◌, ◌≤◌, length, vec_len, vec_capacity, sym, refl, ap, ◌∙◌, arith}
+use Rattle.std.proofs.Common.{◌<◌, ◌≤◌, length, sym, refl, ap, ◌∙◌, arith}
 use Rattle.ringlaws.specs.TxnInfo.{numbers_of, distinct}
 use Rattle.settings.specs.Puts.{list_of}
 use Rattle.settings.proofs.Positions.{found, missed, within, listed, put_there, put_last, put_apart, passes_again, passes_new, too_many}
@@ -9,11 +9,11 @@ index_mut-requires c =
     let h = within (found c.args.number c.in-Some.i c.as_slice.result.now (list_of c.args.self.now) c.as_slice.ensures.value c.in-Some.ensures) in
     omega (arith, c.args.self.now.list.ok.0)
 
-pub invariant_of-self : goal.invariant_of-self
-invariant_of-self c =
+pub invariant_of-self-clause-apart : goal.invariant_of-self-clause-apart
+invariant_of-self-clause-apart c =
     let t = list_of c.args.self.now in
     let at = found c.args.number c.in-Some.i c.as_slice.result.now t c.as_slice.ensures.value c.in-Some.ensures in
-    record { few = c.args.self.now.few; room = c.args.self.now.room; apart = ap (λ l. distinct (numbers_of l)) (sym (put_there at c.args.unit.now)) ∙ put_apart c.args.number t c.args.unit.now c.args.self.now.apart }
+    ap (λ l. distinct (numbers_of l)) (sym (put_there at c.args.unit.now)) ∙ put_apart c.args.number t c.args.unit.now c.args.self.now.apart
 
 pub returns-in-Some : goal.returns-in-Some
 returns-in-Some c =
@@ -28,14 +28,11 @@ returns-then-len-ge-MOST c =
     let many : 30 ≤ length t = omega (arith, c.args.self.now.list.ok.0, c.len.ensures, c.if-len-ge-MOST.true) in
     (too_many c.args.blocks c.args.number t c.if-number-blocks.false fresh many, refl)
 
-pub invariant_of-self-in-None : goal.invariant_of-self-in-None
-invariant_of-self-in-None c =
+pub invariant_of-self-in-None-clause-apart : goal.invariant_of-self-in-None-clause-apart
+invariant_of-self-in-None-clause-apart c =
     let t = list_of c.args.self.now in
     let fresh = missed c.args.number c.as_slice.result.now t c.as_slice.ensures.value c.in-None.ensures in
-    let few : vec_len c.push_reserved.new.self ≤ 30 = omega (arith, c.push_reserved.ensures.len, c.len.ensures, c.if-len-ge-MOST.false) in
-    let cap = c.push_reserved.ensures.capacity in
-    let room : 30 ≤ vec_capacity c.push_reserved.new.self = omega (arith, c.args.self.now.room) in
-    record { few = few; room = room; apart = ap (λ l. distinct (numbers_of l)) (c.push_reserved.ensures.items ∙ sym (put_last c.args.number t c.args.unit.now fresh)) ∙ put_apart c.args.number t c.args.unit.now c.args.self.now.apart }
+    ap (λ l. distinct (numbers_of l)) (c.push_reserved.ensures.items ∙ sym (put_last c.args.number t c.args.unit.now fresh)) ∙ put_apart c.args.number t c.args.unit.now c.args.self.now.apart
 
 pub returns-else-len-ge-MOST : goal.returns-else-len-ge-MOST
 returns-else-len-ge-MOST c =
