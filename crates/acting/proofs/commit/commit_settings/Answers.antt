@@ -11,15 +11,15 @@ returns-then-is_empty g c =
     let none : length c.args.settings.now ≡ 0 = grind (arith, nat_tests) in
     commit_none c.args.places c.args.tail c.args.settings.now _ none
 
-pub returns-in_err-lay_places : goal.returns-in_err-lay_places
-returns-in_err-lay_places g c =
+pub returns-in_err-lay : goal.returns-in_err-lay
+returns-in_err-lay g c =
     let h = c.if-is_empty.ensures in
     let some : 0 < length c.args.settings.now = grind (arith, nat_tests) in
-    commit_broken c.args.places c.args.tail c.from_residual.result c.args.settings.now some c.from_residual.ensures.1 c.in_err-lay_places.ensures
+    commit_broken c.args.places c.args.tail c.from_residual.result c.args.settings.now some c.from_residual.ensures.1 c.in_err-lay.ensures
 
 pub returns : goal.returns
 returns g c =
     let h = c.if-is_empty.ensures in
     let some : 0 < length c.args.settings.now = grind (arith, nat_tests) in
-    let end : c.place_after-new_tail.result ≡ after c.args.places c.args.tail (taken (length c.args.settings.now)) = cc in
-    commit_ended c.args.places c.args.tail c.seal.result c.args.settings.now _ _ some end c.in_ok-lay_places.ensures c.seal.ensures
+    let end : c.place.result ≡ after c.args.places c.args.tail (taken (length c.args.settings.now)) = cc in
+    commit_ended c.args.places c.args.tail c.seal.result c.args.settings.now _ _ some end c.in_ok-lay.ensures c.seal.ensures

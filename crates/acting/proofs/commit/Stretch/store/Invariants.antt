@@ -5,9 +5,9 @@ use Rattle.crash.specs.Acts.{PerformedOn}
 use Rattle.crash.specs.Rows.{storing}
 use Rattle.ringlaws.specs.Layout.{after}
 use Rattle.ringlaws.specs.Spells.{units_of}
-use Rattle.acting.proofs.commit.store_places.Given as goal
+use Rattle.acting.proofs.commit.Stretch.store.Given as goal
 
 abbrev pub invariant-loop-k : goal.invariant-loop-k
 invariant-loop-k g l =
     let m = g.N.Nvm.meaning in
-    PerformedOn nvm_rules (m l.initial.nvm) (each_of (λ k. storing (32 * (after l.places l.tail k + 1)) (get_or (units_of l.settings) k [])) l.k) (m l.nvm)
+    PerformedOn nvm_rules (m l.initial.nvm) (each_of (λ k. storing (32 * (after l.self.places l.self.tail k + 1)) (get_or (units_of l.self.settings.now) k [])) l.k) (m l.nvm)
