@@ -21,8 +21,8 @@ fn fill(cells: &mut [Cell], settled: &[u64], present: &[u64], marks: &[Mark])
     requires { (length cells.old ≤ length settled.now) × ((length cells.old ≤ length present.now) × (length cells.old ≤ length marks.now)) }
     ensures { (w : ℕ) → w < length cells.old → cells_word cells.new w ≡ words_in settled.now present.now marks.now w }
 {
-    for word in 0..cells.len() {
-        cells[word] = Cell::new(settled[word], present[word], marks[word]);
+    for (word, cell) in cells.iter_mut().enumerate() {
+        *cell = Cell::new(settled[word], present[word], marks[word]);
     }
 }
 

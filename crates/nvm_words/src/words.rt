@@ -11,6 +11,7 @@ use simulated::supply::Supply;
 /// The words; the lines that hold an unsettled one, in the order in which they became so; and the power.
 #[derive(Drop)]
 pub struct Words {
+    // Kept: the size is a field beside the words, since the clauses of callers are stated by it.
     pub(crate) units: usize,
     pub(crate) supply: Supply,
     pub(crate) cells: Vec<Cell>,

@@ -83,8 +83,8 @@ fn dark_after_every_act_number(rt: HostRuntime) -> Result<(), Fail> {
     let steps = [Store(0, 1), Flush(0), Fence];
     for acts in 0..4 {
         let mut nvm = EightLineNvm::zeroed(rt.alloc(), 1, acts)?;
-        for i in 0..3 {
-            assert_eq!(rt; perform(&mut nvm, steps[i]) == 0, (i as u64) < acts);
+        for (i, step) in (0..).zip(steps) {
+            assert_eq!(rt; perform(&mut nvm, step) == 0, i < acts);
         }
         assert_eq!(rt; nvm.is_dark(), acts < 3);
     }
