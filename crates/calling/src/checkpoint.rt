@@ -10,7 +10,8 @@ ghost use Rattle.calling.specs.Seen.{seen, done_answer, blocks_answer, if_done};
 
 use crate::ends::ring_ends;
 use acting::both::check_power;
-use checkpointing::devices::{Rows, checkpoint_devices};
+use checkpointing::devices::checkpoint_devices;
+use checkpointing::scratch::Scratch;
 use device::disk::Disk;
 use device::nvm::Nvm;
 use kinds::kind::RecordKind;
@@ -21,8 +22,7 @@ use refusal::reason::Refusal;
 pub fn checkpoint_call<K: RecordKind, N: Nvm, D: Disk>(
     nvm: &mut N,
     disk: &mut D,
-    rows: &mut Rows,
-    buf: &mut [u64; 512],
+    scratch: &mut Scratch,
 ) -> Result<usize, Refusal>
     ensures checkpoint { (state : State) (list : Transaction) → (state ≢ Unmounted) → InOrder (seen (N.Nvm.meaning nvm.old) (D.Disk.meaning disk.old) state list) → Step (kind_of K.RecordKind.unit K.RecordKind.reads) (seen (N.Nvm.meaning nvm.old) (D.Disk.meaning disk.old) state list) Checkpoint (blocks_answer result) (seen (N.Nvm.meaning nvm.new) (D.Disk.meaning disk.new) state list) }
     ensures close { (list : Transaction) → InOrder (seen (N.Nvm.meaning nvm.old) (D.Disk.meaning disk.old) Idle list) → Step (kind_of K.RecordKind.unit K.RecordKind.reads) (seen (N.Nvm.meaning nvm.old) (D.Disk.meaning disk.old) Idle list) Close (done_answer result) (seen (N.Nvm.meaning nvm.new) (D.Disk.meaning disk.new) (if_done result Unmounted Idle) list) }
@@ -30,5 +30,5 @@ pub fn checkpoint_call<K: RecordKind, N: Nvm, D: Disk>(
     check_power(nvm, disk)?;
     let ring = ring_ends(nvm)?;
     let blocks = disk.blocks();
-    checkpoint_devices(nvm, disk, ring, blocks, rows, buf)
+    checkpoint_devices(nvm, disk, ring, blocks, scratch)
 }

@@ -11,7 +11,7 @@ ghost use Rattle.checkpointing.specs.Ready.{Fit, Ready};
 use crate::blocks::write_homes;
 use crate::gather::gather;
 use crate::loads::Loads;
-pub use crate::rows::Rows;
+use crate::scratch::Scratch;
 use acting::both::check_power;
 use acting::memory::seal;
 use device::disk::Disk;
@@ -41,19 +41,18 @@ pub fn checkpoint_devices<N: Nvm, D: Disk>(
     disk: &mut D,
     ring: Ring,
     blocks: usize,
-    rows: &mut Rows,
-    buf: &mut [u64; 512],
+    scratch: &mut Scratch,
 ) -> Result<usize, Refusal>
     ensures ran { (ts : List Transaction) → Ready ring.places blocks (N.Nvm.meaning nvm.old) (D.Disk.meaning disk.old) ring.head ring.tail ts → tail_of (words_of (N.Nvm.meaning nvm.old)) ≡ ring.tail → RanPair (both (N.Nvm.meaning nvm.old) (D.Disk.meaning disk.old)) (checkpoint_acts blocks (words_of (N.Nvm.meaning nvm.old)) ts (sectors_of (D.Disk.meaning disk.old))) result (both (N.Nvm.meaning nvm.new) (D.Disk.meaning disk.new)) }
     ensures counted { (ts : List Transaction) → Ready ring.places blocks (N.Nvm.meaning nvm.old) (D.Disk.meaning disk.old) ring.head ring.tail ts → IfOk result (λ k. k ≡ named_blocks blocks ts) }
 {
     check_fit(nvm, disk, ring, blocks)?;
     let source = Loads(nvm);
-    gather(&source, ring, blocks, rows)?;
-    if rows.is_empty() {
+    gather(&source, ring, blocks, &mut scratch.rows)?;
+    if scratch.rows.is_empty() {
         return Ok(0);
     }
-    let written = write_homes(nvm, disk, rows, blocks, buf)?;
+    let written = write_homes(nvm, disk, &scratch.rows, blocks, &mut scratch.block)?;
     seal(nvm, HEAD_WORD, ring.tail as u64)?;
     Ok(written)
 }

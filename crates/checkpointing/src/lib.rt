@@ -8,3 +8,4 @@ mod lay;
 pub mod loads;
 pub mod read;
 mod rows;
+pub mod scratch;

@@ -21,12 +21,7 @@ pub fn checkpoint<N: Nvm, D: Disk, K: RecordKind>(
     ensures { Called (kind_of K.RecordKind.unit K.RecordKind.reads) (machine engine.old) Checkpoint (blocks_answer result) (machine engine.new) }
 {
     engine.admit(&Call::Checkpoint)?;
-    checkpoint_call::<K, N, D>(
-        &mut engine.nvm,
-        &mut engine.disk,
-        &mut engine.rows,
-        &mut engine.block,
-    )
+    checkpoint_call::<K, N, D>(&mut engine.nvm, &mut engine.disk, &mut engine.scratch)
 }
 
 /// Checkpoints and unmounts the store.
@@ -34,12 +29,7 @@ pub fn close<N: Nvm, D: Disk, K: RecordKind>(engine: &mut Engine<N, D, K>) -> Re
     ensures { Called (kind_of K.RecordKind.unit K.RecordKind.reads) (machine engine.old) Close (done_answer result) (machine engine.new) }
 {
     engine.admit(&Call::Close)?;
-    checkpoint_call::<K, N, D>(
-        &mut engine.nvm,
-        &mut engine.disk,
-        &mut engine.rows,
-        &mut engine.block,
-    )?;
+    checkpoint_call::<K, N, D>(&mut engine.nvm, &mut engine.disk, &mut engine.scratch)?;
     engine.state = State::Unmounted;
     Ok(())
 }

@@ -19,12 +19,7 @@ pub fn mount<N: Nvm, D: Disk, K: RecordKind>(engine: &mut Engine<N, D, K>) -> Re
     ensures { Called (kind_of K.RecordKind.unit K.RecordKind.reads) (machine engine.old) Mount (blocks_answer result) (machine engine.new) }
 {
     engine.admit(&Call::Mount)?;
-    let blocks = mount_call::<K, N, D>(
-        &mut engine.nvm,
-        &mut engine.disk,
-        &mut engine.rows,
-        &mut engine.block,
-    )?;
+    let blocks = mount_call::<K, N, D>(&mut engine.nvm, &mut engine.disk, &mut engine.scratch)?;
     engine.state = State::Idle;
     Ok(blocks)
 }

@@ -23,7 +23,13 @@ pub fn read<N: Nvm, D: Disk, K: RecordKind>(
 {
     engine.admit(&Call::Read(number))?;
     let own = engine.settings.unit_of(number);
-    let unit = read_call(&engine.nvm, &engine.disk, own, number, &mut engine.block)?;
+    let unit = read_call(
+        &engine.nvm,
+        &engine.disk,
+        own,
+        number,
+        &mut engine.scratch.block,
+    )?;
     if all_zero(&unit) {
         return Ok(None);
     }

@@ -8,7 +8,7 @@ ghost use Rattle.settings.specs.Puts.{list_of};
 ghost use Rattle.calling.specs.Seen.{seen};
 
 use calls::state::State;
-use checkpointing::devices::Rows;
+use checkpointing::scratch::Scratch;
 use device::disk::Disk;
 use device::nvm::Nvm;
 use kinds::kind::RecordKind;
@@ -26,8 +26,7 @@ pub struct Engine<N: Nvm, D: Disk, K: RecordKind> {
     pub disk: D,
     pub state: State,
     pub settings: Settings,
-    pub rows: Rows,
-    pub block: [u64; 512],
+    pub scratch: Scratch,
     pub kind: PhantomData<K>,
     pub ghost ordered: { ∥ InOrder (seen (N.Nvm.meaning nvm) (D.Disk.meaning disk) state (list_of settings)) ∥₁ },
 }
@@ -51,8 +50,7 @@ impl<N: Nvm, D: Disk, K: RecordKind> Engine<N, D, K> {
                 disk,
                 state: State::Unmounted,
                 settings,
-                rows: Rows::new(),
-                block: [0; 512],
+                scratch: Scratch::new(),
                 kind: PhantomData,
             }),
             Err(reason) => Err(Unmade { nvm, disk, reason }),

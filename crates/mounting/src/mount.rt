@@ -9,7 +9,8 @@ ghost use Rattle.calling.specs.Seen.{seen, blocks_answer, if_done};
 use acting::both::{check_power, settle_both};
 use calling::contents::check_contents;
 use calling::sizes::fit_sizes;
-use checkpointing::devices::{Rows, checkpoint_devices};
+use checkpointing::devices::checkpoint_devices;
+use checkpointing::scratch::Scratch;
 use device::disk::Disk;
 use device::nvm::Nvm;
 use kinds::kind::RecordKind;
@@ -20,8 +21,7 @@ use refusal::reason::Refusal;
 pub fn mount_call<K: RecordKind, N: Nvm, D: Disk>(
     nvm: &mut N,
     disk: &mut D,
-    rows: &mut Rows,
-    buf: &mut [u64; 512],
+    scratch: &mut Scratch,
 ) -> Result<usize, Refusal>
     ensures { (list : Transaction) → Step (kind_of K.RecordKind.unit K.RecordKind.reads) (seen (N.Nvm.meaning nvm.old) (D.Disk.meaning disk.old) Unmounted list) Mount (blocks_answer result) (seen (N.Nvm.meaning nvm.new) (D.Disk.meaning disk.new) (if_done result Idle Unmounted) list) }
 {
@@ -33,5 +33,5 @@ pub fn mount_call<K: RecordKind, N: Nvm, D: Disk>(
     }
     settle_both(nvm, disk)?;
     let ring = check_contents(nvm, units - 1, blocks)?;
-    checkpoint_devices(nvm, disk, ring, blocks, rows, buf)
+    checkpoint_devices(nvm, disk, ring, blocks, scratch)
 }
