@@ -26,9 +26,7 @@ pub fn run<N: Nvm, D: Disk, K: RecordKind>(
     ensures promise { MatchResult result (λ answers. Performs (kind_of K.RecordKind.unit K.RecordKind.reads) (machine engine.old) requests.now answers.items (machine engine.new))
         (λ e. (e ≡ NoMemory) × (engine.new ≡ engine.old)) }
 {
-    let Ok(mut answers) = Vec::with_capacity(heap, requests.len()) else {
-        return Err(Refusal::NoMemory);
-    };
+    let mut answers = Vec::with_capacity(heap, requests.len())?;
     for request in requests {
         let answer = fulfil(engine, request);
         answers.push_reserved(answer);

@@ -35,7 +35,8 @@ fn run_line<N: Nvm, D: Disk>(
 {
     let said = session.line(heap, line)?;
     let state = letter(&session.store);
-    write_said(out, number, state, &said).map_err(|_| Refusal::NoMemory)
+    write_said(out, number, state, &said)?;
+    Ok(())
 }
 
 /// Runs the lines of a script, one after another.
@@ -66,7 +67,7 @@ fn refuse(heap: Global) -> Result<Vec<u8>, Refusal>
     ensures { MatchResult result (λ out. out.items ≡ line_text 0 117 91 Nothing) (λ e. e ≡ NoMemory) }
 {
     let mut out = Vec::new(heap);
-    write_said(&mut out, 0, 'u', &Err(Complaint::TooLong)).map_err(|_| Refusal::NoMemory)?;
+    write_said(&mut out, 0, 'u', &Err(Complaint::TooLong))?;
     Ok(out)
 }
 

@@ -19,7 +19,7 @@ loop-request-init g c =
       only = g.met.K.RecordKind.only;
     } in
     let m : Machine = machine c.args.engine.now in
-    let made = c.in-Ok.ensures in (
+    let made = c.in_ok-answers.ensures in (
       made.len,
       made.capacity,
       subst (λ (l : List (Answer g.row.K-Record.Denot)). Performs kind m [] l m) (sym made.items) (no_requests kind lawful m),
