@@ -60,9 +60,9 @@ impl Contents {
         ensures { MatchResult result (λ d. disk_state d ≡ blank blocks acts) (λ e. e ≡ NoMemory) }
     {
         let words = blocks.checked_mul(512).ok_or(Refusal::NoMemory)?;
-        let settled = vec![in heap; 0; words].map_err(|_| Refusal::NoMemory)?;
-        let present = vec![in heap; 0; words].map_err(|_| Refusal::NoMemory)?;
-        let waiting = vec![in heap; false; 8 * blocks].map_err(|_| Refusal::NoMemory)?;
+        let settled = vec![in heap; 0; words]?;
+        let present = vec![in heap; 0; words]?;
+        let waiting = vec![in heap; false; 8 * blocks]?;
         Contents::new(heap, settled, present, waiting, acts)
     }
 }
