@@ -1,15 +1,18 @@
 -- What `parse` makes of a word and of a level, as the definitions read them, and that what was written of a number reads as that number.
-use Rattle.std.proofs.Common.{◌≡◌, ℕ, ◌^◌, ◌<◌, ◌≤◌, Bool, true, false, cond, eqb, leb, ◌⊎◌, List, [], ◌∷◌, length, get_or, ℤ, pos, neg_ℤ, negsuc, suc, Some, None, Option, Ok, Err, Result, decimal, sym, refl, ap, ◌∙◌, subst, inl, inr, arith, w16, SFits, rules}
+use Rattle.std.proofs.Common.{◌≡◌, ℕ, zero, ◌+◌, ◌-◌, ◌*◌, ◌^◌, ◌<◌, ◌≤◌, Bool, true, false, cond, eqb, leb, ◌⊎◌, List, [], ◌∷◌, length, get_or, take, drop, ℤ, pos, neg_ℤ, negsuc, suc, Some, None, Option, Ok, Err, Result, decimal, sym, refl, ap, ◌∙◌, subst, inl, inr, suc-le-suc, le-mul_of_pos_right, arith, w16, SFits, rules}
 use Rattle.std.specs.Option.{SomeIff}
+use Rattle.std.specs.List.{AllWithin, HoldsAt}
+use Rattle.std.proofs.Math.Nat.{pow-zero, pow-succ', pow-le-pow_right}
 use Rattle.std.specs.Result.{OkIff, result_ok}
 use Rattle.std.specs.Str.{IsUtf8, all_ascii_digits}
 use Rattle.std.specs.Str.Parse.{ParsesUnsigned, ParsesSigned}
 use Rattle.std.specs.Fmt.{signed_decimal}
+use Rattle.std.proofs.lemmas.List.{take_rest}
 use Rattle.std.proofs.lemmas.Str.{IsUtf8-from_ascii}
 use Rattle.std.proofs.lemmas.Str.Ascii.{IsAscii-from_reads, IsAscii-cons}
 use Rattle.std.proofs.lemmas.Str.Parse.{IsNumeralModel, numerals_by_fold, tells_all_ascii_digits, digit_at, not_in_digits, parse_plain, parse_signed_plain, parse_signed_minus}
 use Rattle.std.proofs.lemmas.Fmt.{digits_decimal, digits_value-decimal, decimal_nonempty}
-use Rattle.std.proofs.lemmas.Bool.{cases_eq, cond-false, and_from, and_parts, lt-ltb, ltb-true, le-leb, leb-true, ne_eqb}
+use Rattle.std.proofs.lemmas.Bool.{cases_eq, cond-true, cond-false, eq-eqb, and_from, and_parts, lt-ltb, ltb-true, le-leb, leb-true, ne_eqb}
 use Rattle.lines.specs.Numerals.{value_after, word_after, word_of, raised, lowered, level_of, ReadBack}
 
 -- the same value by the definition and by the call, where both say when there is one
@@ -105,6 +108,38 @@ no_level (c ∷ cs) h = elim (cases_eq c 45) [
       ]))
   | inr ne ↦ none_of (level_of (c ∷ cs)) _ _ (plain_is (c ∷ cs) ne) (λ w. not_digits (c ∷ cs) h w.1 w.0)
 ]
+
+-- bytes that are too many behind the leading zeros are no word, whatever they are
+tens_below : (n : ℕ) (cs : List ℕ) → n * 10 ^ length cs ≤ value_after n cs
+tens_below n [] = omega (arith, ap (λ (x : ℕ). n * x) (pow-zero 10))
+tens_below n (c ∷ cs) = omega (arith, ap (λ (x : ℕ). n * x) (pow-succ' 10 (length cs)), tens_below (n * 10 + (c - 48)) cs)
+
+digits_above : (c : ℕ) (cs : List ℕ) → (c ≡ 48 → ⊥) → 20 ≤ length cs → Digits (c ∷ cs) → 2 ^ 64 ≤ value_after 0 (c ∷ cs)
+digits_above c cs ne long d =
+    let k = tells_all_ascii_digits.parts c cs d in
+    let some : 1 ≤ c - 48 = omega (arith, k.0, ne) in
+    omega (arith, tens_below (0 * 10 + (c - 48)) cs, le-mul_of_pos_right {m = c - 48} (10 ^ length cs) some, pow-le-pow_right {n = 10} (omega arith) long)
+
+digits_over : (ds : List ℕ) (k : ℕ) → (k < length ds) × HoldsAt (λ c. c ≡ 48 → ⊥) ds k × AllWithin (λ c. c ≡ 48) ds 0 k → 20 < length ds - k → Digits ds → 2 ^ 64 ≤ value_after 0 ds
+digits_over [] k f long d = absurd (omega (arith, f.0))
+digits_over (c ∷ cs) zero f long d = digits_above c cs (f.1 0) (omega arith) d
+digits_over (c ∷ cs) (suc k) f long d =
+    subst (λ (x : ℕ). 2 ^ 64 ≤ value_after (0 * 10 + (x - 48)) cs) (sym (f.2 0 0 (omega arith) (omega arith)))
+    (digits_over cs k (omega (arith, f.0), f.1, λ i e low lt. f.2 (suc i) e (omega arith) (suc-le-suc lt)) (omega arith) (tells_all_ascii_digits.parts c cs d).1)
+
+pub no_word_over : (ds : List ℕ) (k : ℕ) → (k < length ds) × HoldsAt (λ c. c ≡ 48 → ⊥) ds k × AllWithin (λ c. c ≡ 48) ds 0 k → 20 < length ds - k → word_of ds ≡ None
+no_word_over ds k f long = none_of (word_of ds) _ _ (word_is ds) (λ w. omega (arith, w.2, digits_over ds k f long w.0))
+
+-- where the word behind a minus is none, or the word that is all of it, the level is none
+pub no_level_behind : (ds : List ℕ) → get_or ds 0 0 ≡ 45 → word_of (take (length ds - 1) (drop 1 ds)) ≡ None → level_of ds ≡ None
+unfolding level_of
+no_level_behind [] e h = absurd (omega arith)
+no_level_behind (c ∷ cs) e h = cond-true (eqb c 45) _ _ (eq-eqb c 45 e) ∙ ap lowered (ap word_of (sym (take_rest (c ∷ cs) 1)) ∙ h)
+
+pub no_level_plain : (ds : List ℕ) → (0 < length ds → get_or ds 0 0 ≡ 45 → ⊥) → word_of ds ≡ None → level_of ds ≡ None
+unfolding level_of
+no_level_plain [] ne h = refl
+no_level_plain (c ∷ cs) ne h = cond-false (eqb c 45) _ _ (ne_eqb c 45 (ne (omega arith))) ∙ ap raised h
 
 -- what was written is read back
 words_back : (n : ℕ) → n < 2 ^ 64 → word_of (decimal n) ≡ Some n
