@@ -46,7 +46,7 @@ pub fn has_fields(line: &[u8], count: usize) -> bool
     ensures count { result ≡ (length (fields_of line.now) == count) }
     ensures law { Fielded line.now (fields_of line.now) }
 {
-    line.split(|c| *c == TAB).count() == count
+    count > 0 && line.split(|c| *c == TAB).count() == count
 }
 
 /// The line's field `k`, counted from 0, or none where it has no more fields.
