@@ -1,5 +1,5 @@
 -- Whether one of some tests is true. Assumes nothing.
-use Rattle.std.specs.Prelude.{◌≡◌, ℕ, zero, suc, ◌<◌, Bool, true, false, ◌||◌, refl}
+use Rattle.std.specs.Prelude.{◌≡◌, ℕ, zero, suc, ◌+◌, ◌<◌, Bool, true, false, ◌||◌, refl}
 use Rattle.std.proofs.Common.{sym, ap, ◌∙◌, inl, inr, arith, not-suc-le-zero}
 use Rattle.std.proofs.lemmas.Bool.{cases_eq}
 use Rattle.device.specs.Sectors.{any_below}
@@ -26,6 +26,17 @@ any_true f n k l e = by_test (any_below f n) refl
     by_test : (t : Bool) → any_below f n ≡ t → t ≡ true
     by_test true i = refl
     by_test false i = sym (any_false f n i k l) ∙ e
+
+-- Of no tests none is true, and of one test more none is true where neither it nor any before it is.
+pub any_zero : (f : ℕ → Bool) → any_below f 0 ≡ false
+unfolding any_below
+any_zero f = refl
+
+pub any_more : (f : ℕ → Bool) (n : ℕ) → any_below f n ≡ false → f n ≡ false → any_below f (n + 1) ≡ false
+unfolding any_below
+any_more f n h e =
+    let q : n + 1 ≡ suc n = omega arith in
+    ap (any_below f) q ∙ ap (λ t. t || any_below f n) e ∙ h
 
 pub any_same : (f g : ℕ → Bool) (n : ℕ) → ((k : ℕ) → k < n → f k ≡ g k) → any_below f n ≡ any_below g n
 unfolding any_below
