@@ -1,5 +1,5 @@
 //! The fields of a record, and of a detail.
-ghost use Rattle.std.specs.Prelude.{◌≡◌, ◌++◌, OnOk};
+ghost use Rattle.std.specs.Prelude.{◌≡◌, ◌∷◌, ◌++◌, decimal, OnOk};
 ghost use Rattle.lines.specs.Splits.{tabbed};
 ghost use Rattle.printing.specs.Texts.{tile_fields, mast_fields, record_fields, detail_fields};
 
@@ -13,6 +13,21 @@ use tile::record::Tile;
 // Kept: `absent`, `tile` and `mast` are written as the fixed byte strings that a script's verbs are compared with, as the project's
 // rules want them, and by no Display of a record.
 
+/// Writes a number.
+pub(crate) fn write_number(out: &mut Vec<u8>, number: u64) -> Result<(), AllocError>
+    ensures { OnOk result (out.new.items ≡ out.old.items ++ decimal number) }
+{
+    write!(out, "{number}").map_err(|_| AllocError)
+}
+
+/// Writes a tab and a number.
+fn write_next(out: &mut Vec<u8>, number: u64) -> Result<(), AllocError>
+    ensures { OnOk result (out.new.items ≡ out.old.items ++ (9 ∷ decimal number)) }
+{
+    out.extend_from_slice(b"\t")?;
+    write_number(out, number)
+}
+
 /// Writes a tile's verb, column, row, plan and the level of sample 0.
 fn write_tile(out: &mut Vec<u8>, tile: &Tile) -> Result<(), AllocError>
     ensures { OnOk result (out.new.items ≡ out.old.items ++ tabbed (tile_fields tile.now)) }
@@ -22,17 +37,20 @@ fn write_tile(out: &mut Vec<u8>, tile: &Tile) -> Result<(), AllocError>
     let plan = tile.plan();
     let level = tile.level(0).unwrap_or(0);
     out.extend_from_slice(b"tile")?;
-    write!(out, "\t{column}\t{row}\t{plan}\t{level}").map_err(|_| AllocError)
+    write_next(out, column)?;
+    write_next(out, row)?;
+    write_next(out, plan)?;
+    write!(out, "\t{level}").map_err(|_| AllocError)
 }
 
 /// Writes a mast's verb, number and name.
 fn write_mast(out: &mut Vec<u8>, mast: &Mast) -> Result<(), AllocError>
     ensures { OnOk result (out.new.items ≡ out.old.items ++ tabbed (mast_fields mast.now)) }
 {
-    let number = mast.number();
-    let name = mast.text();
     out.extend_from_slice(b"mast")?;
-    write!(out, "\t{number}\t{name}").map_err(|_| AllocError)
+    write_next(out, mast.number())?;
+    out.extend_from_slice(b"\t")?;
+    out.extend_from_slice(mast.name())
 }
 
 /// Writes a record.
@@ -51,7 +69,7 @@ pub fn write_detail(out: &mut Vec<u8>, detail: &Detail) -> Result<(), AllocError
 {
     match detail {
         Detail::Nothing => out.extend_from_slice(b"-"),
-        Detail::Count(count) => write!(out, "{count}").map_err(|_| AllocError),
+        Detail::Count(count) => write_number(out, *count),
         Detail::Absent => out.extend_from_slice(b"absent"),
         Detail::Record(value) => write_record(out, value),
     }

@@ -6,21 +6,20 @@ ghost use Rattle.printing.specs.Laws.{RecordsReadBack};
 
 use crate::complaint::Complaint;
 use crate::detail::Detail;
-use crate::fields::write_detail;
+use crate::fields::{write_detail, write_number};
 use std::alloc::AllocError;
-use std::io::Write;
 
-/// The letter of a state: unmounted, idle, open or dark. A question mark stands for any other letter.
+/// The letter of a state, unmounted, idle, open or dark, between two tabs. A question mark stands for any other letter.
 // Kept: the state is a letter that is matched by literals where the line is printed, and stored nowhere, as the project's rules want it.
-fn state_word(state: char) -> &'static str
-    ensures { result.now ≡ state_letter state ∷ [] }
+fn state_field(state: char) -> &'static [u8]
+    ensures { result.now ≡ 9 ∷ state_letter state ∷ 9 ∷ [] }
 {
     match state {
-        'u' => "u",
-        'i' => "i",
-        'o' => "o",
-        'd' => "d",
-        _ => "?",
+        'u' => b"\tu\t",
+        'i' => b"\ti\t",
+        'o' => b"\to\t",
+        'd' => b"\td\t",
+        _ => b"\t?\t",
     }
 }
 
@@ -37,8 +36,10 @@ pub fn write_line(
     ensures text { OnOk result (out.new.items ≡ out.old.items ++ line_text number state answer detail.now) }
     ensures law { RecordsReadBack }
 {
-    let letter = state_word(state);
-    write!(out, "{number}\t{letter}\t{answer}\t").map_err(|_| AllocError)?;
+    write_number(out, number)?;
+    out.extend_from_slice(state_field(state))?;
+    write_number(out, u64::from(answer))?;
+    out.extend_from_slice(b"\t")?;
     write_detail(out, detail)?;
     out.extend_from_slice(b"\n")
 }
