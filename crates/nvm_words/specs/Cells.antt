@@ -1,5 +1,6 @@
 -- What the words of a simulated memory are, and how they change. Assumes nothing.
 use Rattle.std.specs.Prelude.{◌≡◌, ℕ, ◌+◌, ◌*◌, ◌/◌, Bool, cond, List, slice_index_or}
+use Rattle.std.specs.Borrow.{MutBor}
 use Rattle.device.specs.Pieces.{settled, unsettled, is_unsettled}
 use Rattle.device.specs.Words.{Word, waiting, flushed}
 use Rattle.device.specs.Sectors.{any_below}
@@ -20,9 +21,9 @@ cells_word cs w = cell_word (slice_index_or cs w (Settled 0))
 abbrev pub is_unsettled_line : (ℕ → Word) → ℕ → Bool
 is_unsettled_line word l = any_below (λ k. is_unsettled (word (8 * l + k))) 8
 
--- what a change gives for the cell w stands for what `makes` makes of that word
-abbrev pub Makes : (ℕ → Cell → Cell → Type 0) → (ℕ → Word → Word) → Type 0
-Makes gives makes = (w : ℕ) (c r : Cell) → gives w c r → cell_word r ≡ makes w (cell_word c)
+-- what a change leaves in the place of the cell w stands for what `makes` makes of that word
+abbrev pub Makes : (ℕ → MutBor Cell → Unit {0} → MutBor Cell → Type 0) → (ℕ → Word → Word) → Type 0
+Makes leaves makes = (w : ℕ) (c r : MutBor Cell) → leaves w c tt r → cell_word r.now ≡ makes w (cell_word c.now)
 
 -- done twice it is done once
 abbrev pub Steady : (ℕ → Word → Word) → Type 0

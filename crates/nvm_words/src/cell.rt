@@ -65,30 +65,28 @@ impl Cell {
         }
     }
 
-    /// The word after a flush of its line.
-    pub(crate) fn flushed(self) -> Cell
-        ensures { cell_word result ≡ flushed_word (cell_word self) }
+    /// A flush of the word's line turns it flushed, if it waits.
+    pub(crate) fn flush(&mut self)
+        ensures { cell_word self.new ≡ flushed_word (cell_word self.old) }
     {
-        match self {
-            Cell::Waiting { old, new } => Cell::Flushed { old, new },
-            cell => cell,
+        if let Cell::Waiting { old, new } = *self {
+            *self = Cell::Flushed { old, new };
         }
     }
 
-    /// The word after a fence.
-    pub(crate) fn fenced(self) -> Cell
-        ensures { cell_word result ≡ fenced_word (cell_word self) }
+    /// A fence settles the word, if it is flushed.
+    pub(crate) fn fence(&mut self)
+        ensures { cell_word self.new ≡ fenced_word (cell_word self.old) }
     {
-        match self {
-            Cell::Flushed { new, .. } => Cell::Settled(new),
-            cell => cell,
+        if let Cell::Flushed { new, .. } = *self {
+            *self = Cell::Settled(new);
         }
     }
 
-    /// The word settled, at its present or at its settled value.
-    pub(crate) fn returned(self, new: bool) -> Cell
-        ensures { cell_word result ≡ settled (cond new (present_value (cell_word self)) (settled_value (cell_word self))) }
+    /// The word settles, at its present or at its settled value.
+    pub(crate) fn come_back(&mut self, new: bool)
+        ensures { cell_word self.new ≡ settled (cond new (present_value (cell_word self.old)) (settled_value (cell_word self.old))) }
     {
-        Cell::Settled(if new { self.present() } else { self.settled() })
+        *self = Cell::Settled(if new { self.present() } else { self.settled() });
     }
 }

@@ -19,7 +19,7 @@ impl Words {
         change_lines(
             self.cells.as_mut_slice(),
             self.pending.as_slice(),
-            &|word, cell: Cell| cell.returned(takes_new(how, word)),
+            &|word, cell: &mut Cell| cell.come_back(takes_new(how, word)),
         );
         self.pending.clear();
         self.supply.restore(acts);

@@ -17,23 +17,18 @@ pub(crate) fn any_unsettled(cells: &[Cell], line: usize) -> bool
 }
 
 /// Changes the words of a line.
-pub(crate) fn change_line<F: Fn(usize, Cell) -> Cell>(cells: &mut [Cell], line: usize, change: &F)
+pub(crate) fn change_line<F: Fn(usize, &mut Cell)>(cells: &mut [Cell], line: usize, change: &F)
     requires within { 8 * line + 8 ≤ length cells.old }
     requires callable { F.IsAlwaysCallable change.now }
     ensures { (makes : ℕ → Word → Word) → Makes (F.post change.now) makes → Within (8 * line) (8 * line + 8) makes cells.old cells.new }
 {
-    // Kept: the change is told the number of the word, which an enumeration of the eight would count from 0.
-    for word in 8 * line..8 * line + 8 {
-        cells[word] = change(word, cells[word]);
+    for (place, cell) in cells[8 * line..8 * line + 8].iter_mut().enumerate() {
+        change(8 * line + place, cell);
     }
 }
 
 /// Changes the words of the listed lines.
-pub(crate) fn change_lines<F: Fn(usize, Cell) -> Cell>(
-    cells: &mut [Cell],
-    lines: &[usize],
-    change: &F,
-)
+pub(crate) fn change_lines<F: Fn(usize, &mut Cell)>(cells: &mut [Cell], lines: &[usize], change: &F)
     requires within { (k : ℕ) → k < length lines.now → 8 * slice_index lines.now k + 8 ≤ length cells.old }
     requires callable { F.IsAlwaysCallable change.now }
     ensures { (makes : ℕ → Word → Word) → Makes (F.post change.now) makes → Steady makes → Among lines.now makes cells.old cells.new }

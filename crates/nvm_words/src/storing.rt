@@ -30,7 +30,7 @@ impl Words {
         change_line(
             self.cells.as_mut_slice(),
             line,
-            &|_, cell: Cell| { cell.returned(true) },
+            &|_, cell: &mut Cell| cell.come_back(true),
         );
         self.pending.remove_first();
     }
@@ -43,7 +43,7 @@ impl Words {
         change_line(
             self.cells.as_mut_slice(),
             line,
-            &|_, cell: Cell| cell.flushed(),
+            &|_, cell: &mut Cell| cell.flush(),
         );
     }
 
@@ -54,7 +54,7 @@ impl Words {
         change_lines(
             self.cells.as_mut_slice(),
             self.pending.as_slice(),
-            &|_, cell: Cell| cell.fenced(),
+            &|_, cell: &mut Cell| cell.fence(),
         );
         note_lines(
             self.holds.as_mut_slice(),
