@@ -1,6 +1,6 @@
 //! Checkpoint and close.
 ghost use Rattle.calls.specs.declared.call.Call.TheVariants.{Checkpoint, Close};
-ghost use Rattle.order.specs.Order.{kind_of};
+ghost use Rattle.order.specs.Order.{InOrder, kind_of};
 ghost use Rattle.calling.specs.Seen.{done_answer, blocks_answer};
 ghost use Rattle.engine.specs.Called.{Called};
 ghost use Rattle.engine.specs.Machine.{machine};
@@ -18,7 +18,7 @@ use refusal::reason::Refusal;
 pub fn checkpoint<N: Nvm, D: Disk, K: RecordKind>(
     engine: &mut Engine<N, D, K>,
 ) -> Result<usize, Refusal>
-    ensures { Called (kind_of K.RecordKind.unit K.RecordKind.reads) (machine engine.old) Checkpoint (blocks_answer result) (machine engine.new) }
+    ensures { InOrder (machine N.Nvm.meaning D.Disk.meaning engine.old) → Called (kind_of K.RecordKind.unit K.RecordKind.reads) (machine N.Nvm.meaning D.Disk.meaning engine.old) Checkpoint (blocks_answer result) (machine N.Nvm.meaning D.Disk.meaning engine.new) }
 {
     engine.admit(&Call::Checkpoint)?;
     checkpoint_call::<K, N, D>(&mut engine.nvm, &mut engine.disk, &mut engine.scratch)
@@ -26,7 +26,7 @@ pub fn checkpoint<N: Nvm, D: Disk, K: RecordKind>(
 
 /// Checkpoints and unmounts the store.
 pub fn close<N: Nvm, D: Disk, K: RecordKind>(engine: &mut Engine<N, D, K>) -> Result<(), Refusal>
-    ensures { Called (kind_of K.RecordKind.unit K.RecordKind.reads) (machine engine.old) Close (done_answer result) (machine engine.new) }
+    ensures { InOrder (machine N.Nvm.meaning D.Disk.meaning engine.old) → Called (kind_of K.RecordKind.unit K.RecordKind.reads) (machine N.Nvm.meaning D.Disk.meaning engine.old) Close (done_answer result) (machine N.Nvm.meaning D.Disk.meaning engine.new) }
 {
     engine.admit(&Call::Close)?;
     checkpoint_call::<K, N, D>(&mut engine.nvm, &mut engine.disk, &mut engine.scratch)?;

@@ -1,6 +1,6 @@
 //! Commit.
 ghost use Rattle.calls.specs.declared.call.Call.TheVariants.{Commit};
-ghost use Rattle.order.specs.Order.{kind_of};
+ghost use Rattle.order.specs.Order.{InOrder, kind_of};
 ghost use Rattle.calling.specs.Seen.{used_answer};
 ghost use Rattle.engine.specs.Called.{Called};
 ghost use Rattle.engine.specs.Machine.{machine};
@@ -18,7 +18,7 @@ use refusal::reason::Refusal;
 pub fn commit<N: Nvm, D: Disk, K: RecordKind>(
     engine: &mut Engine<N, D, K>,
 ) -> Result<usize, Refusal>
-    ensures { Called (kind_of K.RecordKind.unit K.RecordKind.reads) (machine engine.old) Commit (used_answer result) (machine engine.new) }
+    ensures { InOrder (machine N.Nvm.meaning D.Disk.meaning engine.old) → Called (kind_of K.RecordKind.unit K.RecordKind.reads) (machine N.Nvm.meaning D.Disk.meaning engine.old) Commit (used_answer result) (machine N.Nvm.meaning D.Disk.meaning engine.new) }
 {
     engine.admit(&Call::Commit)?;
     let used = commit_call::<K, N, D>(&mut engine.nvm, &engine.disk, engine.settings.as_slice())?;

@@ -15,7 +15,7 @@ use refusal::reason::Refusal;
 
 /// Formats the devices of an unmounted store.
 pub fn format<N: Nvm, D: Disk, K: RecordKind>(engine: &mut Engine<N, D, K>) -> Result<(), Refusal>
-    ensures { Called (kind_of K.RecordKind.unit K.RecordKind.reads) (machine engine.old) Format (done_answer result) (machine engine.new) }
+    ensures { Called (kind_of K.RecordKind.unit K.RecordKind.reads) (machine N.Nvm.meaning D.Disk.meaning engine.old) Format (done_answer result) (machine N.Nvm.meaning D.Disk.meaning engine.new) }
 {
     engine.admit(&Call::Format)?;
     format_call::<K, N, D>(&mut engine.nvm, &mut engine.disk)?;

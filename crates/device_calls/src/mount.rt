@@ -16,7 +16,7 @@ use refusal::reason::Refusal;
 
 /// Mounts the store: settles everything, looks at the contents, and empties the ring. Answers the number of blocks written.
 pub fn mount<N: Nvm, D: Disk, K: RecordKind>(engine: &mut Engine<N, D, K>) -> Result<usize, Refusal>
-    ensures { Called (kind_of K.RecordKind.unit K.RecordKind.reads) (machine engine.old) Mount (blocks_answer result) (machine engine.new) }
+    ensures { Called (kind_of K.RecordKind.unit K.RecordKind.reads) (machine N.Nvm.meaning D.Disk.meaning engine.old) Mount (blocks_answer result) (machine N.Nvm.meaning D.Disk.meaning engine.new) }
 {
     engine.admit(&Call::Mount)?;
     let blocks = mount_call::<K, N, D>(&mut engine.nvm, &mut engine.disk, &mut engine.scratch)?;

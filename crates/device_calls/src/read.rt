@@ -1,6 +1,6 @@
 //! Read.
 ghost use Rattle.calls.specs.declared.call.Call.TheVariants.{Read};
-ghost use Rattle.order.specs.Order.{kind_of};
+ghost use Rattle.order.specs.Order.{InOrder, kind_of};
 ghost use Rattle.engine.specs.Called.{Called};
 ghost use Rattle.engine.specs.Machine.{machine};
 ghost use Rattle.device_calls.specs.Answers.{read_answer};
@@ -19,7 +19,7 @@ pub fn read<N: Nvm, D: Disk, K: RecordKind>(
     engine: &mut Engine<N, D, K>,
     number: u64,
 ) -> Result<Option<K::Record>, Refusal>
-    ensures { Called (kind_of K.RecordKind.unit K.RecordKind.reads) (machine engine.old) (Read number) (read_answer result) (machine engine.new) }
+    ensures { InOrder (machine N.Nvm.meaning D.Disk.meaning engine.old) → Called (kind_of K.RecordKind.unit K.RecordKind.reads) (machine N.Nvm.meaning D.Disk.meaning engine.old) (Read number) (read_answer result) (machine N.Nvm.meaning D.Disk.meaning engine.new) }
 {
     engine.admit(&Call::Read(number))?;
     let own = engine.settings.unit_of(number);

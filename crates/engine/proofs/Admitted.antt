@@ -3,6 +3,8 @@ use Rattle.std.proofs.Common.{◌≡◌, ℕ, ◌*◌, ◌≤◌, Bool, true, fa
 use Rattle.refusal.specs.declared.reason.Refusal.{Refusal}
 use Rattle.refusal.specs.declared.reason.Refusal.TheVariants.{Dark}
 use Rattle.device.specs.Pieces.{is_unsettled}
+use Rattle.device.specs.Words.{NvmMeaning}
+use Rattle.device.specs.Sectors.{DiskMeaning}
 use Rattle.crash.specs.Pair.{is_dark}
 use Rattle.crash.specs.Runs.{done}
 use Rattle.ringlaws.specs.TxnInfo.{Transaction}
@@ -72,10 +74,10 @@ judged_plain Open Checkpoint = refl
 judged_plain Open Close = refl
 
 -- the devices of an engine have nothing to settle beyond their sizes
-pub ends : {N D K R : Type 0} {nvm : _} {disk : _} {kind : _} (e : Engine N D K R nvm disk kind)
-    → ((s : N) (w : ℕ) → 32 * (nvm.meaning s).size ≤ w → is_unsettled ((nvm.meaning s).piece w) ≡ false)
-    → ((s : D) (i : ℕ) → 8 * (disk.meaning s).size ≤ i → is_unsettled ((disk.meaning s).piece i) ≡ false) → EndsThere (machine e)
-ends e nvm disk = record { nvm = nvm e.nvm; disk = disk e.disk }
+pub ends : {N D K R : Type 0} (nvm : N → NvmMeaning) (disk : D → DiskMeaning) (e : Engine N D K R)
+    → ((s : N) (w : ℕ) → 32 * (nvm s).size ≤ w → is_unsettled ((nvm s).piece w) ≡ false)
+    → ((s : D) (i : ℕ) → 8 * (disk s).size ≤ i → is_unsettled ((disk s).piece i) ≡ false) → EndsThere (machine nvm disk e)
+ends nvm disk e n d = record { nvm = n e.nvm; disk = d e.disk }
 
 -- a call that was let through
 pub passed : {d : Bool} {j : Option Refusal} → Ok tt ≡ admission d j → (d ≡ false) × (j ≡ None)

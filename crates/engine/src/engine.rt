@@ -1,11 +1,11 @@
 //! What a store is made of: its engine.
-ghost use Rattle.std.specs.Prelude.{◌≡◌, [], MatchResult};
+ghost use Rattle.std.specs.Prelude.{◌≡◌, [], IfOk, MatchResult};
 ghost use Rattle.refusal.specs.declared.reason.Refusal.TheVariants.{NoMemory};
 ghost use Rattle.crash.specs.Pair.{both, is_dark};
 ghost use Rattle.calls.specs.declared.state.State.TheVariants.{Unmounted};
 ghost use Rattle.order.specs.Order.{InOrder};
 ghost use Rattle.settings.specs.Puts.{list_of};
-ghost use Rattle.calling.specs.Seen.{seen};
+ghost use Rattle.engine.specs.Machine.{machine};
 
 use calls::state::State;
 use checkpointing::scratch::Scratch;
@@ -18,8 +18,8 @@ use std::alloc::Global;
 use std::marker::PhantomData;
 
 /// The engine of a store of records of the kind `K`: its two devices, its state, the settings of its open transaction, and the memory
-/// that its calls work with. It keeps no copy of what its devices hold. It is always in order, whatever its devices held when it was made.
-/// Its parts are open to the crates that make the calls; a program has a `Store`, whose engine is closed.
+/// that its calls work with. It keeps no copy of what its devices hold. Its parts are open to the crates that make the calls: it is in
+/// order when it is made, and each call leaves it so. A program has a `Store`, whose engine is closed.
 #[derive(Drop)]
 pub struct Engine<N: Nvm, D: Disk, K: RecordKind> {
     pub nvm: N,
@@ -28,7 +28,6 @@ pub struct Engine<N: Nvm, D: Disk, K: RecordKind> {
     pub settings: Settings,
     pub scratch: Scratch,
     pub kind: PhantomData<K>,
-    pub ghost ordered: { ∥ InOrder (seen (N.Nvm.meaning nvm) (D.Disk.meaning disk) state (list_of settings)) ∥₁ },
 }
 
 /// Two devices of which no store was made, and why.
@@ -43,6 +42,7 @@ impl<N: Nvm, D: Disk, K: RecordKind> Engine<N, D, K> {
     /// An unmounted store of two devices. It takes all its memory here; for want of it the devices come back.
     pub fn new(heap: Global, nvm: N, disk: D) -> Result<Engine<N, D, K>, Unmade<N, D>>
         ensures made { MatchResult result (λ s. (s.nvm ≡ nvm) × (s.disk ≡ disk) × (s.state ≡ Unmounted) × (list_of s.settings ≡ [])) (λ u. (u.nvm ≡ nvm) × (u.disk ≡ disk) × (u.reason ≡ NoMemory)) }
+        ensures order { IfOk result (λ s. InOrder (machine N.Nvm.meaning D.Disk.meaning s)) }
     {
         match Settings::new(heap) {
             Ok(settings) => Ok(Engine {

@@ -33,7 +33,7 @@ impl<N: Nvm, D: Disk, K: RecordKind> Engine<N, D, K> {
 
     /// Opens a transaction.
     pub fn begin(&mut self) -> Result<(), Refusal>
-        ensures { Called (kind_of K.RecordKind.unit K.RecordKind.reads) (machine self.old) Begin (done_answer result) (machine self.new) }
+        ensures { Called (kind_of K.RecordKind.unit K.RecordKind.reads) (machine N.Nvm.meaning D.Disk.meaning self.old) Begin (done_answer result) (machine N.Nvm.meaning D.Disk.meaning self.new) }
     {
         self.admit(&Call::Begin)?;
         self.state = State::Open;
@@ -42,7 +42,7 @@ impl<N: Nvm, D: Disk, K: RecordKind> Engine<N, D, K> {
 
     /// Sets a record in the open transaction.
     pub fn set(&mut self, number: u64, value: &K::Record) -> Result<(), Refusal>
-        ensures { Called (kind_of K.RecordKind.unit K.RecordKind.reads) (machine self.old) (Set number value.now) (done_answer result) (machine self.new) }
+        ensures { Called (kind_of K.RecordKind.unit K.RecordKind.reads) (machine N.Nvm.meaning D.Disk.meaning self.old) (Set number value.now) (done_answer result) (machine N.Nvm.meaning D.Disk.meaning self.new) }
     {
         self.admit(&Call::Set(number, ()))?;
         let mut unit = [0; 32];
@@ -52,7 +52,7 @@ impl<N: Nvm, D: Disk, K: RecordKind> Engine<N, D, K> {
 
     /// Sets a record to 32 zero words, which make it absent.
     pub fn clear(&mut self, number: u64) -> Result<(), Refusal>
-        ensures { Called (kind_of K.RecordKind.unit K.RecordKind.reads) (machine self.old) (Clear number) (done_answer result) (machine self.new) }
+        ensures { Called (kind_of K.RecordKind.unit K.RecordKind.reads) (machine N.Nvm.meaning D.Disk.meaning self.old) (Clear number) (done_answer result) (machine N.Nvm.meaning D.Disk.meaning self.new) }
     {
         self.admit(&Call::Clear(number))?;
         let unit = [0; 32];
@@ -61,7 +61,7 @@ impl<N: Nvm, D: Disk, K: RecordKind> Engine<N, D, K> {
 
     /// Drops the open transaction.
     pub fn abandon(&mut self) -> Result<(), Refusal>
-        ensures { Called (kind_of K.RecordKind.unit K.RecordKind.reads) (machine self.old) Abandon (done_answer result) (machine self.new) }
+        ensures { Called (kind_of K.RecordKind.unit K.RecordKind.reads) (machine N.Nvm.meaning D.Disk.meaning self.old) Abandon (done_answer result) (machine N.Nvm.meaning D.Disk.meaning self.new) }
     {
         self.admit(&Call::Abandon)?;
         self.settings.clear();

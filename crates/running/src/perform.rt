@@ -1,6 +1,6 @@
 //! One call, or one restart.
 ghost use Rattle.std.specs.Prelude.{◌≡◌, [], ◌∷◌};
-ghost use Rattle.order.specs.Order.{kind_of};
+ghost use Rattle.order.specs.Order.{InOrder, kind_of};
 ghost use Rattle.engine.specs.Called.{Called};
 ghost use Rattle.engine.specs.Machine.{machine};
 ghost use Rattle.promise.specs.Told.{Performs};
@@ -26,7 +26,7 @@ pub fn perform<N: Nvm, D: Disk, K: RecordKind>(
     engine: &mut Engine<N, D, K>,
     call: &Call<K::Record>,
 ) -> Answer<K::Record>
-    ensures { Called (kind_of K.RecordKind.unit K.RecordKind.reads) (machine engine.old) call.now result (machine engine.new) }
+    ensures { InOrder (machine N.Nvm.meaning D.Disk.meaning engine.old) → Called (kind_of K.RecordKind.unit K.RecordKind.reads) (machine N.Nvm.meaning D.Disk.meaning engine.old) call.now result (machine N.Nvm.meaning D.Disk.meaning engine.new) }
 {
     match call {
         Call::Format => done(format(engine)),
@@ -47,7 +47,7 @@ pub fn fulfil<N: Nvm, D: Disk, K: RecordKind>(
     engine: &mut Engine<N, D, K>,
     request: &Request<K::Record>,
 ) -> Answer<K::Record>
-    ensures promise { Performs (kind_of K.RecordKind.unit K.RecordKind.reads) (machine engine.old) (request.now ∷ []) (result ∷ []) (machine engine.new) }
+    ensures promise { Performs (kind_of K.RecordKind.unit K.RecordKind.reads) (machine N.Nvm.meaning D.Disk.meaning engine.old) (request.now ∷ []) (result ∷ []) (machine N.Nvm.meaning D.Disk.meaning engine.new) }
     ensures back { AsAsked N.Nvm.comes D.Disk.comes engine.old.nvm engine.old.disk request.now engine.new.nvm engine.new.disk }
 {
     match request {

@@ -23,7 +23,7 @@ pub fn run<N: Nvm, D: Disk, K: RecordKind>(
     requests: &[Request<K::Record>],
 ) -> Result<Vec<Answer<K::Record>>, Refusal>
     ensures each { IfOk result (λ answers. length answers.items ≡ length requests.now) }
-    ensures promise { MatchResult result (λ answers. Performs (kind_of K.RecordKind.unit K.RecordKind.reads) (machine engine.old) requests.now answers.items (machine engine.new))
+    ensures promise { MatchResult result (λ answers. Performs (kind_of K.RecordKind.unit K.RecordKind.reads) (machine N.Nvm.meaning D.Disk.meaning engine.old) requests.now answers.items (machine N.Nvm.meaning D.Disk.meaning engine.new))
         (λ e. (e ≡ NoMemory) × (engine.new ≡ engine.old)) }
 {
     let mut answers = Vec::with_capacity(heap, requests.len())?;

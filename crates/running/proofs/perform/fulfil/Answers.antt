@@ -19,10 +19,10 @@ returns-in-Call-clause-promise g c =
       back = g.met.K.RecordKind.back;
       only = g.met.K.RecordKind.only;
     } in
-    let m : Machine = machine c.args.engine.now in
-    let there : EndsThere m = ends c.args.engine.now g.met.N.Nvm.ends g.met.D.Disk.ends in
-    subst (λ (x : Request g.row.K-Record.Denot). Performs kind m (x ∷ []) (c.perform.result ∷ []) (machine c.perform.new.engine)) (sym c.in-Call.is)
-    (one_call_more kind lawful m m (machine c.perform.new.engine) [] [] c.in-Call.call c.perform.result (no_requests kind lawful m) there (λ _. c.perform.ensures.step))
+    let m : Machine = machine g.N.Nvm.meaning g.D.Disk.meaning c.args.engine.now in
+    let there : EndsThere m = ends g.N.Nvm.meaning g.D.Disk.meaning c.args.engine.now g.met.N.Nvm.ends g.met.D.Disk.ends in
+    subst (λ (x : Request g.row.K-Record.Denot). Performs kind m (x ∷ []) (c.perform.result ∷ []) (machine g.N.Nvm.meaning g.D.Disk.meaning c.perform.new.engine)) (sym c.in-Call.is)
+    (one_call_more kind lawful m m (machine g.N.Nvm.meaning g.D.Disk.meaning c.perform.new.engine) [] [] c.in-Call.call c.perform.result (no_requests kind lawful m) there (λ o. (c.perform.ensures o).step))
 
 pub returns-in-Restart-clause-promise : goal.returns-in-Restart-clause-promise
 returns-in-Restart-clause-promise g c =
@@ -33,6 +33,6 @@ returns-in-Restart-clause-promise g c =
       back = g.met.K.RecordKind.back;
       only = g.met.K.RecordKind.only;
     } in
-    let m : Machine = machine c.args.engine.now in
-    subst (λ (x : Request g.row.K-Record.Denot). Performs kind m (x ∷ []) (Done ∷ []) (machine c.restart.new.engine)) (sym c.in-Restart.is)
-    (one_restart_more kind lawful m m (machine c.restart.new.engine) [] [] c.in-Restart.back (no_requests kind lawful m) c.restart.ensures.restarted)
+    let m : Machine = machine g.N.Nvm.meaning g.D.Disk.meaning c.args.engine.now in
+    subst (λ (x : Request g.row.K-Record.Denot). Performs kind m (x ∷ []) (Done ∷ []) (machine g.N.Nvm.meaning g.D.Disk.meaning c.restart.new.engine)) (sym c.in-Restart.is)
+    (one_restart_more kind lawful m m (machine g.N.Nvm.meaning g.D.Disk.meaning c.restart.new.engine) [] [] c.in-Restart.back (no_requests kind lawful m) c.restart.ensures.restarted)

@@ -18,7 +18,7 @@ loop-request-init g c =
       back = g.met.K.RecordKind.back;
       only = g.met.K.RecordKind.only;
     } in
-    let m : Machine = machine c.args.engine.now in
+    let m : Machine = machine g.N.Nvm.meaning g.D.Disk.meaning c.args.engine.now in
     let made = c.in_ok-answers.ensures in (
       made.len,
       made.capacity,

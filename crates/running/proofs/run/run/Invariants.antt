@@ -9,6 +9,6 @@ abbrev pub invariant-loop-request : goal.invariant-loop-request
 invariant-loop-request g l =
     (vec_len l.answers ≡ l.request-index) × (length l.requests ≤ vec_capacity l.answers)
     × Performs (kind_of g.K.RecordKind.unit g.K.RecordKind.reads)
-    (machine l.initial.engine)
+    (machine g.N.Nvm.meaning g.D.Disk.meaning l.initial.engine)
     (take l.request-index l.requests) (vec_items l.answers)
-    (machine l.engine)
+    (machine g.N.Nvm.meaning g.D.Disk.meaning l.engine)

@@ -2,22 +2,14 @@ use Rattle.calls.specs.declared.call.Call.TheVariants.{Begin}
 use Rattle.order.specs.Order.{kind_of}
 use Rattle.engine.specs.Machine.{machine}
 use Rattle.engine.proofs.Admitted.{ends, refused, begun}
-use Rattle.engine.proofs.Ordered.{kept}
 use Rattle.engine.proofs.engine.Engine.begin.Goals as goal
 
 pub returns-in_err-admit : goal.returns-in_err-admit
 returns-in_err-admit g c =
-    refused (kind_of g.K.RecordKind.unit g.K.RecordKind.reads) g.met.K.RecordKind.whole (machine c.args.self.now) (ends c.args.self.now g.met.N.Nvm.ends g.met.D.Disk.ends)
+    refused (kind_of g.K.RecordKind.unit g.K.RecordKind.reads) g.met.K.RecordKind.whole (machine g.N.Nvm.meaning g.D.Disk.meaning c.args.self.now) (ends g.N.Nvm.meaning g.D.Disk.meaning c.args.self.now g.met.N.Nvm.ends g.met.D.Disk.ends)
     Begin c.in_err-admit.field-0.0 c.in_err-admit.ensures c.from_residual.result c.from_residual.ensures.1
-
-pub invariant_of-self : goal.invariant_of-self
-invariant_of-self g c =
-    record {
-      ordered = kept (begun (kind_of g.K.RecordKind.unit g.K.RecordKind.reads) g.met.K.RecordKind.whole (machine c.args.self.now) (ends c.args.self.now g.met.N.Nvm.ends g.met.D.Disk.ends)
-          c.in_ok-admit.ensures) c.args.self.now.ordered;
-    }
 
 pub returns : goal.returns
 returns g c =
-    begun (kind_of g.K.RecordKind.unit g.K.RecordKind.reads) g.met.K.RecordKind.whole (machine c.args.self.now) (ends c.args.self.now g.met.N.Nvm.ends g.met.D.Disk.ends)
+    begun (kind_of g.K.RecordKind.unit g.K.RecordKind.reads) g.met.K.RecordKind.whole (machine g.N.Nvm.meaning g.D.Disk.meaning c.args.self.now) (ends g.N.Nvm.meaning g.D.Disk.meaning c.args.self.now g.met.N.Nvm.ends g.met.D.Disk.ends)
     c.in_ok-admit.ensures
