@@ -19,7 +19,7 @@ pub fn try_set<N: Nvm, D: Disk, K: RecordKind>(
     number: u64,
     value: &K::Record,
 ) -> Result<(), Refusal>
-    ensures { Tried (kind_of K.RecordKind.unit K.RecordKind.reads) (machine store.old) number value.now result (machine store.new) }
+    ensures { Tried (kind_of K.RecordKind.unit K.RecordKind.reads) (machine N.Nvm.meaning D.Disk.meaning store.old) number value.now result (machine N.Nvm.meaning D.Disk.meaning store.new) }
 {
     let ticket = store.begin()?;
     let answer = store.set(&ticket, number, value);
@@ -33,7 +33,7 @@ pub fn give_back<N: Nvm, D: Disk, K: RecordKind>(
     held: Option<Ticket>,
 ) -> Result<(), Refusal>
     requires { IfSome held (λ t. t.live ≡ 1) }
-    ensures { GivenBack (kind_of K.RecordKind.unit K.RecordKind.reads) held (machine store.old) result (machine store.new) }
+    ensures { GivenBack (kind_of K.RecordKind.unit K.RecordKind.reads) held (machine N.Nvm.meaning D.Disk.meaning store.old) result (machine N.Nvm.meaning D.Disk.meaning store.new) }
 {
     match held {
         Some(ticket) => store.abandon(ticket),

@@ -3,11 +3,12 @@ ghost use Rattle.std.specs.Prelude.{◌≡◌, [], length, IfOk, MatchResult};
 ghost use Rattle.refusal.specs.declared.reason.Refusal.TheVariants.{NoMemory};
 ghost use Rattle.crash.specs.Pair.{both, is_dark};
 ghost use Rattle.calls.specs.declared.state.State.TheVariants.{Unmounted};
-ghost use Rattle.order.specs.Order.{kind_of};
+ghost use Rattle.order.specs.Order.{InOrder, kind_of};
 ghost use Rattle.settings.specs.Puts.{list_of};
+ghost use Rattle.engine.specs.Machine.{machine as machine_of};
 ghost use Rattle.promise.specs.History.{unknown, Known};
 ghost use Rattle.promise.specs.Told.{Performs};
-ghost use Rattle.store.specs.Machine.{machine};
+ghost use Rattle.store.specs.Machine.{Held, machine};
 ghost use Rattle.store.specs.OneByOne.{CallsOneByOneAreAList};
 
 use calls::answer::Answer;
@@ -19,11 +20,21 @@ use kinds::kind::RecordKind;
 use promise::request::Request;
 use refusal::reason::Refusal;
 use std::alloc::Global;
+use std::marker::Model;
 
-/// A store of records of the kind `K` on two devices of any types. It owns them; nothing else reaches them.
+/// A store of records of the kind `K` on two devices of any types. It owns them; nothing else reaches them. It is always in order,
+/// whatever its devices held when it was made.
 #[derive(Drop)]
 pub struct Store<N: Nvm, D: Disk, K: RecordKind> {
     pub(crate) engine: Engine<N, D, K>,
+}
+
+impl<N: Nvm, D: Disk, K: RecordKind> Model for Store<N, D, K> {
+    ghost Value = { Held N D K K.Record };
+
+    ghost view = { λ s. record { engine = s.engine } };
+
+    ghost invariant = { λ s. ∥ InOrder (machine_of N.Nvm.meaning D.Disk.meaning s.engine) ∥₁ };
 }
 
 impl<N: Nvm, D: Disk, K: RecordKind> Store<N, D, K> {
@@ -31,7 +42,7 @@ impl<N: Nvm, D: Disk, K: RecordKind> Store<N, D, K> {
     /// the devices hold.
     pub fn new(heap: Global, nvm: N, disk: D) -> Result<Store<N, D, K>, Unmade<N, D>>
         ensures made { MatchResult result (λ s. (s.engine.nvm ≡ nvm) × (s.engine.disk ≡ disk) × (s.engine.state ≡ Unmounted) × (list_of s.engine.settings ≡ [])) (λ u. (u.nvm ≡ nvm) × (u.disk ≡ disk) × (u.reason ≡ NoMemory)) }
-        ensures known { IfOk result (λ s. Known (kind_of K.RecordKind.unit K.RecordKind.reads) unknown (machine s)) }
+        ensures known { IfOk result (λ s. Known (kind_of K.RecordKind.unit K.RecordKind.reads) unknown (machine N.Nvm.meaning D.Disk.meaning s)) }
     {
         let engine = Engine::new(heap, nvm, disk)?;
         Ok(Store { engine })
@@ -50,7 +61,7 @@ impl<N: Nvm, D: Disk, K: RecordKind> Store<N, D, K> {
         requests: &[Request<K::Record>],
     ) -> Result<Vec<Answer<K::Record>>, Refusal>
         ensures each { IfOk result (λ answers. length answers.items ≡ length requests.now) }
-        ensures promise { MatchResult result (λ answers. Performs (kind_of K.RecordKind.unit K.RecordKind.reads) (machine self.old) requests.now answers.items (machine self.new))
+        ensures promise { MatchResult result (λ answers. Performs (kind_of K.RecordKind.unit K.RecordKind.reads) (machine N.Nvm.meaning D.Disk.meaning self.old) requests.now answers.items (machine N.Nvm.meaning D.Disk.meaning self.new))
             (λ e. (e ≡ NoMemory) × (self.new.engine ≡ self.old.engine)) }
     {
         running::run::run(heap, &mut self.engine, requests)

@@ -1,5 +1,4 @@
-use Rattle.engine.proofs.Ordered.{in_order}
 use Rattle.store.proofs.store.Store.new.Goals as goal
 
-pub returns-clause-known : goal.returns-clause-known
-returns-clause-known g c = record { order = in_order _ c.in_ok-engine.engine.ordered; past = tt }
+pub invariant_of-result : goal.invariant_of-result
+invariant_of-result g c = ∣ c.in_ok-engine.ensures.order ∣₁

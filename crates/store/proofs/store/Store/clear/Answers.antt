@@ -1,0 +1,5 @@
+use Rattle.engine.proofs.Ordered.{kept}
+use Rattle.store.proofs.store.Store.clear.Goals as goal
+
+pub invariant_of-self : goal.invariant_of-self
+invariant_of-self g c = kept c.clear.ensures c.self.invariant

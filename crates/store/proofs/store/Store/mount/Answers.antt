@@ -1,0 +1,5 @@
+use Rattle.engine.proofs.Ordered.{kept}
+use Rattle.store.proofs.store.Store.mount.Goals as goal
+
+pub invariant_of-self : goal.invariant_of-self
+invariant_of-self g c = kept c.mount.ensures c.self.invariant
