@@ -32,9 +32,9 @@ impl<N: Nvm, D: Disk> Session<N, D> {
     /// A call that leaves the ticket as it is.
     fn call(&mut self, heap: Global, call: Call<Joined>) -> Result<Said, Refusal>
         ensures { MatchResult result (λ s. (c : Asked) → ((a : Reply Value) → held_after self.old.held c a ≡ self.old.held) → CallSaid
-            (machine_of self.old) self.old.held
+            (machine_of N.Nvm.meaning D.Disk.meaning self.old) self.old.held
             c call (number_shown s) (detail_shown s)
-            (machine_of self.new) self.new.held) (λ e. e ≡ NoMemory) }
+            (machine_of N.Nvm.meaning D.Disk.meaning self.new) self.new.held) (λ e. e ≡ NoMemory) }
     {
         let answer = self.ask(heap, Request::Call(call))?;
         Ok(said_of(answer))
@@ -43,9 +43,9 @@ impl<N: Nvm, D: Disk> Session<N, D> {
     /// A begin: accepted, it hands out a ticket.
     fn begin(&mut self, heap: Global) -> Result<Said, Refusal>
         ensures { MatchResult result (λ s. CallSaid
-            (machine_of self.old) self.old.held
+            (machine_of N.Nvm.meaning D.Disk.meaning self.old) self.old.held
             beginning Begin (number_shown s) (detail_shown s)
-            (machine_of self.new) self.new.held) (λ e. e ≡ NoMemory) }
+            (machine_of N.Nvm.meaning D.Disk.meaning self.new) self.new.held) (λ e. e ≡ NoMemory) }
     {
         let answer = self.ask(heap, Request::Call(Call::Begin))?;
         if is_accepted(&answer) {
@@ -57,9 +57,9 @@ impl<N: Nvm, D: Disk> Session<N, D> {
     /// A commit: it spends the ticket, unless its refusal hands it back.
     fn commit(&mut self, heap: Global) -> Result<Said, Refusal>
         ensures { MatchResult result (λ s. CallSaid
-            (machine_of self.old) self.old.held
+            (machine_of N.Nvm.meaning D.Disk.meaning self.old) self.old.held
             committing Commit (number_shown s) (detail_shown s)
-            (machine_of self.new) self.new.held) (λ e. e ≡ NoMemory) }
+            (machine_of N.Nvm.meaning D.Disk.meaning self.new) self.new.held) (λ e. e ≡ NoMemory) }
     {
         let answer = self.ask(heap, Request::Call(Call::Commit))?;
         self.held = keeps_ticket(&answer);
@@ -69,9 +69,9 @@ impl<N: Nvm, D: Disk> Session<N, D> {
     /// An abandon: it takes the ticket whatever it answers.
     fn abandon(&mut self, heap: Global) -> Result<Said, Refusal>
         ensures { MatchResult result (λ s. CallSaid
-            (machine_of self.old) self.old.held
+            (machine_of N.Nvm.meaning D.Disk.meaning self.old) self.old.held
             abandoning Abandon (number_shown s) (detail_shown s)
-            (machine_of self.new) self.new.held) (λ e. e ≡ NoMemory) }
+            (machine_of N.Nvm.meaning D.Disk.meaning self.new) self.new.held) (λ e. e ≡ NoMemory) }
     {
         let answer = self.ask(heap, Request::Call(Call::Abandon))?;
         self.held = false;
@@ -80,7 +80,7 @@ impl<N: Nvm, D: Disk> Session<N, D> {
 
     /// Gives a held ticket up.
     pub fn give_up(&mut self, heap: Global) -> Result<(), Refusal>
-        ensures { MatchResult result (λ _. GivenUp (machine_of self.old) self.old.held (machine_of self.new) × (self.new.held ≡ false)) (λ e. e ≡ NoMemory) }
+        ensures { MatchResult result (λ _. GivenUp (machine_of N.Nvm.meaning D.Disk.meaning self.old) self.old.held (machine_of N.Nvm.meaning D.Disk.meaning self.new) × (self.new.held ≡ false)) (λ e. e ≡ NoMemory) }
     {
         if self.held {
             let _ = self.abandon(heap)?;
@@ -91,9 +91,9 @@ impl<N: Nvm, D: Disk> Session<N, D> {
     /// A record that is made and set, or that cannot be made.
     fn set(&mut self, heap: Global, record: u64, draft: Draft<'_>) -> Result<Said, Refusal>
         ensures { MatchResult result (λ s. self.old.held ≡ true → LineSaid
-            (machine_of self.old) self.old.held
+            (machine_of N.Nvm.meaning D.Disk.meaning self.old) self.old.held
             (Some (setting «record» (wanted draft.entry))) (number_shown s) (detail_shown s)
-            (machine_of self.new) self.new.held) (λ e. e ≡ NoMemory) }
+            (machine_of N.Nvm.meaning D.Disk.meaning self.new) self.new.held) (λ e. e ≡ NoMemory) }
     {
         match make(draft) {
             Ok(value) => self.call(heap, Call::Set(record, value)),
@@ -110,9 +110,9 @@ impl<N: Nvm, D: Disk> Session<N, D> {
         disk_acts: u64,
     ) -> Result<Said, Refusal>
         ensures { MatchResult result (λ s. LineSaid
-            (machine_of self.old) self.old.held
+            (machine_of N.Nvm.meaning D.Disk.meaning self.old) self.old.held
             (Some (restarting contents nvm_acts disk_acts)) (number_shown s) (detail_shown s)
-            (machine_of self.new) self.new.held) (λ e. e ≡ NoMemory) }
+            (machine_of N.Nvm.meaning D.Disk.meaning self.new) self.new.held) (λ e. e ≡ NoMemory) }
     {
         self.give_up(heap)?;
         let back = Return {
@@ -135,9 +135,9 @@ impl<N: Nvm, D: Disk> Session<N, D> {
     /// What a command says, and does.
     fn command(&mut self, heap: Global, command: Command<'_>) -> Result<Said, Refusal>
         ensures { MatchResult result (λ s. LineSaid
-            (machine_of self.old) self.old.held
+            (machine_of N.Nvm.meaning D.Disk.meaning self.old) self.old.held
             (Some (asked command.entry)) (number_shown s) (detail_shown s)
-            (machine_of self.new) self.new.held) (λ e. e ≡ NoMemory) }
+            (machine_of N.Nvm.meaning D.Disk.meaning self.new) self.new.held) (λ e. e ≡ NoMemory) }
     {
         if self.lacks_ticket(command) {
             return Ok(Err(Complaint::Refused(Refusal::NotOpen)));
@@ -164,9 +164,9 @@ impl<N: Nvm, D: Disk> Session<N, D> {
     /// What a line says, and does.
     pub fn line(&mut self, heap: Global, line: &[u8]) -> Result<Said, Refusal>
         ensures { MatchResult result (λ s. LineSaid
-            (machine_of self.old) self.old.held
+            (machine_of N.Nvm.meaning D.Disk.meaning self.old) self.old.held
             (command_of line.now) (number_shown s) (detail_shown s)
-            (machine_of self.new) self.new.held) (λ e. e ≡ NoMemory) }
+            (machine_of N.Nvm.meaning D.Disk.meaning self.new) self.new.held) (λ e. e ≡ NoMemory) }
     {
         match parse(line) {
             Some(command) => self.command(heap, command),

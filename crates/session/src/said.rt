@@ -61,7 +61,7 @@ pub fn needs_ticket(command: Command<'_>) -> bool
 
 /// The letter of a store: dark, or by its state unmounted, idle or open.
 pub fn letter<N: Nvm, D: Disk>(store: &Store<N, D, JoinedKind>) -> char
-    ensures { result ≡ letter_of (machine store.now) }
+    ensures { result ≡ letter_of (machine N.Nvm.meaning D.Disk.meaning store.now) }
 {
     if store.is_dark() {
         return 'd';

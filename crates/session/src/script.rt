@@ -29,9 +29,9 @@ fn run_line<N: Nvm, D: Disk>(
     out: &mut Vec<u8>,
 ) -> Result<(), Refusal>
     ensures { MatchResult result (λ _. LineWritten
-        (machine_of session.old) session.old.held
+        (machine_of N.Nvm.meaning D.Disk.meaning session.old) session.old.held
         (command_of line.now) number out.old.items out.new.items
-        (machine_of session.new) session.new.held) (λ e. e ≡ NoMemory) }
+        (machine_of N.Nvm.meaning D.Disk.meaning session.new) session.new.held) (λ e. e ≡ NoMemory) }
 {
     let said = session.line(heap, line)?;
     let state = letter(&session.store);
@@ -47,8 +47,8 @@ fn run_lines<N: Nvm, D: Disk>(
 ) -> Result<Vec<u8>, Refusal>
     requires { length input.now ≤ most_bytes }
     ensures { MatchResult result (λ out. session.old.held ≡ false → (number : ℕ) × Progress
-        (machine_of session.old) input.now [] number out.items
-        (machine_of session.new) session.new.held) (λ e. e ≡ NoMemory) }
+        (machine_of N.Nvm.meaning D.Disk.meaning session.old) input.now [] number out.items
+        (machine_of N.Nvm.meaning D.Disk.meaning session.new) session.new.held) (λ e. e ≡ NoMemory) }
 {
     let mut out = Vec::new(heap);
     let mut rest = input;
@@ -79,8 +79,8 @@ pub fn run_script<N: Nvm, D: Disk>(
     input: &[u8],
 ) -> Result<Vec<u8>, Refusal>
     ensures { MatchResult result (λ out. session.old.held ≡ false → Runs
-        (machine_of session.old) input.now out.items
-        (machine_of session.new)) (λ e. e ≡ NoMemory) }
+        (machine_of N.Nvm.meaning D.Disk.meaning session.old) input.now out.items
+        (machine_of N.Nvm.meaning D.Disk.meaning session.new)) (λ e. e ≡ NoMemory) }
 {
     if input.len() > MOST_BYTES {
         return refuse(heap);

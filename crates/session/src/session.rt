@@ -34,8 +34,8 @@ impl<N: Nvm, D: Disk> Session<N, D> {
     /// Asks one thing of the store.
     pub fn ask(&mut self, heap: Global, request: Request<Joined>) -> Result<Answer<Joined>, Refusal>
         ensures answer { MatchResult result (λ a. Performs tiles_and_masts
-            (machine_of self.old) (request ∷ []) (a ∷ [])
-            (machine_of self.new)) (λ e. e ≡ NoMemory) }
+            (machine_of N.Nvm.meaning D.Disk.meaning self.old) (request ∷ []) (a ∷ [])
+            (machine_of N.Nvm.meaning D.Disk.meaning self.new)) (λ e. e ≡ NoMemory) }
         ensures ticket { self.new.held ≡ self.old.held }
     {
         let requests = [request];

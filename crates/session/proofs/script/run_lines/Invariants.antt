@@ -8,9 +8,9 @@ abbrev pub invariant-loop-split : goal.invariant-loop-split
 invariant-loop-split g l =
     (l.number + length l.rest ≤ length l.input)
     × (l.initial.session.held ≡ false → Progress
-    (machine_of l.initial.session)
+    (machine_of g.N.Nvm.meaning g.D.Disk.meaning l.initial.session)
     l.input l.rest l.number (vec_items l.out)
-    (machine_of l.session)
+    (machine_of g.N.Nvm.meaning g.D.Disk.meaning l.session)
     l.session.held)
 
 abbrev pub decreases-loop-split : goal.decreases-loop-split
