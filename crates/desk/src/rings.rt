@@ -99,7 +99,8 @@ impl RingDesk {
         ensures { Finds (word_of (image_of self.now)) 32 (head_in (image_of self.now)) (tail_in (image_of self.now)) number result }
     {
         let words = Words(self.image.as_slice());
-        find::find(&words, self.ring(), number)
+        let ring = self.ring();
+        find::find(&words, ring, number)
     }
 
     /// Sets one word of the image to a value, as a fault of the memory would.

@@ -1,6 +1,5 @@
 //! The lines about the ring and about the memory.
 use commands::command::Contents;
-use device::comeback::Comeback;
 use lines::fields::word_at;
 use lines::numeral::number;
 use lines::split::{field, has_fields};
@@ -21,7 +20,7 @@ pub enum RingVerb {
 }
 
 /// What a line about the memory asks for.
-#[derive(Drop)]
+#[derive(Clone, Copy)]
 pub enum MemoryVerb {
     /// Store a value into a word.
     Store { word: u64, value: u64 },
@@ -32,11 +31,11 @@ pub enum MemoryVerb {
     /// Show a word.
     Word(u64),
     /// Give the memory power for so many acts; unsettled words come back new, or old.
-    Restart { back: Comeback, acts: u64 },
+    Restart { back: Contents, acts: u64 },
 }
 
 /// What a line asks for.
-#[derive(Drop)]
+#[derive(Clone, Copy)]
 pub enum Verb {
     Ring(RingVerb),
     Memory(MemoryVerb),
@@ -67,7 +66,7 @@ fn with_number(verb: &[u8], n: u64) -> Option<Verb> {
 fn with_two(verb: &[u8], first: &[u8], value: u64) -> Option<Verb> {
     match verb {
         b"restart" => {
-            let back = Contents::try_from(first).ok()?.into();
+            let back = Contents::try_from(first).ok()?;
             Some(Verb::Memory(MemoryVerb::Restart { back, acts: value }))
         }
         b"damage" => {

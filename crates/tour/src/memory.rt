@@ -69,6 +69,6 @@ pub fn run_memory(rt: &HostRuntime, nvm: &mut PatientNvm, verb: MemoryVerb) -> a
         MemoryVerb::Flush(line) => say(rt, nvm.flush(line as usize)),
         MemoryVerb::Fence => say(rt, nvm.fence()),
         MemoryVerb::Word(word) => show_word(rt, nvm, word as usize),
-        MemoryVerb::Restart { back, acts } => restart(rt, nvm, &back, acts),
+        MemoryVerb::Restart { back, acts } => restart(rt, nvm, &back.comeback(), acts),
     }
 }
