@@ -4,10 +4,10 @@ ghost use Rattle.lines.specs.Splits.{tabbed};
 ghost use Rattle.printing.specs.Texts.{tile_fields, mast_fields, record_fields, detail_fields};
 
 use crate::detail::Detail;
+use itoa::Buffer;
 use joined::record::Joined;
 use mast::record::Mast;
 use std::alloc::AllocError;
-use std::io::Write;
 use tile::record::Tile;
 
 // Kept: `absent`, `tile` and `mast` are written as the fixed byte strings that a script's verbs are compared with, as the project's
@@ -17,7 +17,8 @@ use tile::record::Tile;
 pub(crate) fn write_number(out: &mut Vec<u8>, number: u64) -> Result<(), AllocError>
     ensures { OnOk result (out.new.items ≡ out.old.items ++ decimal number) }
 {
-    write!(out, "{number}").map_err(|_| AllocError)
+    let mut digits = Buffer::new();
+    out.extend_from_slice(digits.format(number).as_bytes())
 }
 
 /// Writes a tab and a number.
@@ -40,7 +41,9 @@ fn write_tile(out: &mut Vec<u8>, tile: &Tile) -> Result<(), AllocError>
     write_next(out, column)?;
     write_next(out, row)?;
     write_next(out, plan)?;
-    write!(out, "\t{level}").map_err(|_| AllocError)
+    let mut digits = Buffer::new();
+    out.extend_from_slice(b"\t")?;
+    out.extend_from_slice(digits.format(level).as_bytes())
 }
 
 /// Writes a mast's verb, number and name.
