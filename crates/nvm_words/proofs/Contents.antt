@@ -29,21 +29,21 @@ flush_lines old new l h k = same_line (cells_word old) (cells_word new) k (λ w 
 
 -- a store into the word x
 module _ (cs : List Cell) (x u v : ℕ) (is : u ≡ settled_value (cells_word cs x)) (within : x < length cs) where
-  pub stored_words : (w : ℕ) → cells_word (set cs x (Waiting u v)) w ≡ nvm_makes (Store x v) w (cells_word cs w)
+  pub stored_words : (w : ℕ) → cells_word (set cs x (Waiting v u)) w ≡ nvm_makes (Store x v) w (cells_word cs w)
   stored_words w = elim (cases_eq w x) [
-    | inl e ↦ ap (λ k. cell_word (get_or (set cs x (Waiting u v)) k (Settled 0))) e ∙ ap cell_word (get_or-set_same cs x (Waiting u v) (Settled 0) within)
+    | inl e ↦ ap (λ k. cell_word (get_or (set cs x (Waiting v u)) k (Settled 0))) e ∙ ap cell_word (get_or-set_same cs x (Waiting v u) (Settled 0) within)
         ∙ ap (λ s. unsettled waiting s v) (is ∙ ap (λ k. settled_value (cells_word cs k)) (sym e))
         ∙ ap (λ t. cond t (unsettled waiting (settled_value (cells_word cs w)) v) (cells_word cs w)) (let q : true ≡ eqb w x = grind (arith, nat_tests) in q)
-    | inr ne ↦ ap cell_word (get_or-set_other cs x w (Waiting u v) (Settled 0) ne)
+    | inr ne ↦ ap cell_word (get_or-set_other cs x w (Waiting v u) (Settled 0) ne)
         ∙ ap (λ t. cond t (unsettled waiting (settled_value (cells_word cs w)) v) (cells_word cs w)) (let q : false ≡ eqb w x = grind (arith, nat_tests) in q)
   ]
 
   -- the line of x is unsettled then, and each other as it was
-  pub stored_lines : (l : ℕ) → is_unsettled_line (cells_word (set cs x (Waiting u v))) l ≡ eqb l (x / 8) || is_unsettled_line (cells_word cs) l
+  pub stored_lines : (l : ℕ) → is_unsettled_line (cells_word (set cs x (Waiting v u))) l ≡ eqb l (x / 8) || is_unsettled_line (cells_word cs) l
   stored_lines l = elim (cases_eq l (x / 8)) [
-    | inl e ↦ any_true _ 8 (x % 8) (omega arith) (ap (λ n. is_unsettled (cells_word (set cs x (Waiting u v)) n)) (let q : 8 * l + x % 8 ≡ x = omega arith in q) ∙ ap (λ c. is_unsettled (cell_word c)) (get_or-set_same cs x (Waiting u v) (Settled 0) within))
+    | inl e ↦ any_true _ 8 (x % 8) (omega arith) (ap (λ n. is_unsettled (cells_word (set cs x (Waiting v u)) n)) (let q : 8 * l + x % 8 ≡ x = omega arith in q) ∙ ap (λ c. is_unsettled (cell_word c)) (get_or-set_same cs x (Waiting v u) (Settled 0) within))
         ∙ ap (λ t. t || is_unsettled_line (cells_word cs) l) (let q : true ≡ eqb l (x / 8) = grind (arith, nat_tests) in q)
-    | inr ne ↦ same_line (cells_word cs) (cells_word (set cs x (Waiting u v))) l (λ w q. ap (λ c. is_unsettled (cell_word c)) (get_or-set_other cs x w (Waiting u v) (Settled 0) (λ e. ne (sym q ∙ ap (λ n. n / 8) e))))
+    | inr ne ↦ same_line (cells_word cs) (cells_word (set cs x (Waiting v u))) l (λ w q. ap (λ c. is_unsettled (cell_word c)) (get_or-set_other cs x w (Waiting v u) (Settled 0) (λ e. ne (sym q ∙ ap (λ n. n / 8) e))))
         ∙ ap (λ t. t || is_unsettled_line (cells_word cs) l) (let q : false ≡ eqb l (x / 8) = grind (arith, nat_tests) in q)
   ]
 

@@ -10,8 +10,8 @@ use Rattle.nvm_words.specs.declared.cell.Cell.TheVariants.{Settled, Waiting, Flu
 
 abbrev pub cell_word : Cell → Word
 cell_word (Settled v) = settled v
-cell_word (Waiting old new) = unsettled waiting old new
-cell_word (Flushed old new) = unsettled flushed old new
+cell_word (Waiting new old) = unsettled waiting old new
+cell_word (Flushed new old) = unsettled flushed old new
 
 -- the word w of some cells; past their end it is settled at 0
 abbrev pub cells_word : List Cell → ℕ → Word

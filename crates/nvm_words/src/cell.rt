@@ -7,12 +7,13 @@ ghost use Rattle.nvm_words.specs.Marks.{word_of, mark_of};
 
 use crate::mark::Mark;
 
-/// A word: settled at a value, or waiting or flushed, with its settled value and its present one.
+/// A word: settled at a value, or waiting or flushed, with its present value and its settled one.
 #[derive(Clone, Copy)]
 pub(crate) enum Cell {
     Settled(u64),
-    Waiting { old: u64, new: u64 },
-    Flushed { old: u64, new: u64 },
+    // Kept: the present value comes first, where a settled word has its value, so that a load asks for no mark.
+    Waiting { new: u64, old: u64 },
+    Flushed { new: u64, old: u64 },
 }
 
 impl Cell {
