@@ -1,18 +1,18 @@
 -- What the acts do to the words and to which lines hold an unsettled one. Assumes nothing.
-use Rattle.std.proofs.Common.{◌≡◌, ℕ, ◌+◌, ◌*◌, ◌/◌, ◌%◌, ◌<◌, Bool, true, false, cond, ◌||◌, eqb, List, length, get_or, set, Vec, sym, refl, ap, ◌∙◌, inl, inr, arith}
+use Rattle.std.proofs.Common.{◌≡◌, ℕ, ◌+◌, ◌*◌, ◌/◌, ◌%◌, ◌<◌, Bool, true, false, cond, ◌||◌, eqb, List, length, get_or, set, Vec, sym, refl, ap, ◌∙◌, inl, inr, arith, eqb-true}
 use Rattle.std.proofs.lemmas.Bool.{cases_eq}
 use Rattle.std.proofs.lemmas.Bool.Decides.{nat_tests}
 use Rattle.std.proofs.lemmas.List.{get_or-set_same, get_or-set_other}
 use Rattle.std.specs.Vec.{with_items}
 use Rattle.std.specs.declared.alloc.Global.{Global}
 use Rattle.device.specs.Pieces.{settled, unsettled, settled_value, present_value, is_unsettled}
-use Rattle.device.specs.Words.{Word, waiting, flushed, flushed_word, fenced_word, nvm_makes, Store}
+use Rattle.device.specs.Words.{Word, waiting, flushed, flushed_word, fenced_word, nvm_makes, Store, Flush}
 use Rattle.simulated.specs.Lists.{member, inside}
 use Rattle.simulated.proofs.Lent.{lent_at}
 use Rattle.nvm_words.specs.declared.cell.Cell.{Cell}
 use Rattle.nvm_words.specs.declared.cell.Cell.TheVariants.{Settled, Waiting}
 use Rattle.nvm_words.specs.Cells.{cell_word, cells_word, is_unsettled_line, Steady, Within}
-use Rattle.nvm_words.proofs.Any.{any_same, any_true}
+use Rattle.nvm_words.proofs.Any.{any_false, any_same, any_true}
 
 -- words that are as unsettled as others in a line
 pub same_line : (word new : ℕ → Word) (l : ℕ) → ((w : ℕ) → w / 8 ≡ l → is_unsettled (new w) ≡ is_unsettled (word w)) → is_unsettled_line new l ≡ is_unsettled_line word l
@@ -26,6 +26,20 @@ flush_lines old new l h k = same_line (cells_word old) (cells_word new) k (λ w 
     keeps true (settled v) = refl
     keeps true (unsettled m s p) = refl
     keeps false c = refl
+
+-- and nothing of one that holds no unsettled word
+pub flush_rests : (cs : List Cell) (l : ℕ) → is_unsettled_line (cells_word cs) l ≡ false → (w : ℕ) → cells_word cs w ≡ nvm_makes (Flush l) w (cells_word cs w)
+flush_rests cs l still w = by_test (eqb (w / 8) l) refl
+  where
+    rests : (c : Word) → is_unsettled c ≡ false → c ≡ flushed_word c
+    rests (settled v) e = refl
+    rests (unsettled m s p) e = let z : true ≡ false = e in cc
+
+    by_test : (t : Bool) → eqb (w / 8) l ≡ t → cells_word cs w ≡ cond t (flushed_word (cells_word cs w)) (cells_word cs w)
+    by_test true e =
+        let is : 8 * l + w % 8 ≡ w = omega (arith, eqb-true (w / 8) l e) in
+        rests (cells_word cs w) (ap (λ k. is_unsettled (cells_word cs k)) (sym is) ∙ any_false (λ k. is_unsettled (cells_word cs (8 * l + k))) 8 still (w % 8) (omega arith))
+    by_test false e = refl
 
 -- a store into the word x
 module _ (cs : List Cell) (x u v : ℕ) (is : u ≡ settled_value (cells_word cs x)) (within : x < length cs) where

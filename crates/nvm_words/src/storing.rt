@@ -35,16 +35,18 @@ impl Words {
         self.pending.remove_first();
     }
 
-    /// Flushes a line.
+    /// Flushes a line. One that holds no unsettled word stays as it is.
     pub(crate) fn flush_line(&mut self, line: usize)
         requires { line < 4 * self.old.units }
         ensures { Became self.old.supply (nvm_makes (Flush line)) (unsettled_lines self.old) self.old self.new }
     {
-        change_line(
-            self.cells.as_mut_slice(),
-            line,
-            &|_, cell: &mut Cell| cell.flush(),
-        );
+        if self.holds_unsettled(line) {
+            change_line(
+                self.cells.as_mut_slice(),
+                line,
+                &|_, cell: &mut Cell| cell.flush(),
+            );
+        }
     }
 
     /// Settles the flushed words. A line that still holds a waiting word keeps its age.
