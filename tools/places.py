@@ -106,7 +106,7 @@ def point4():
 
 def point5():
     out = [("a store as a machine, spelled", *g) for g in grep(r"seen \(.*meaning")]
-    out += [("a premise of order", *g) for g in grep(r"InOrder \(seen")]
+    out += [("a premise of order", *g) for g in grep(r"InOrder \((seen|machine)")]
     out += [("a ring by three numbers", path, number, f"fn {name}") for path, number, name, parts in signatures()
             if {"head", "tail"} <= {p.split(":")[0].split()[-1] for p in parts if ":" in p}]
     out += [("six parameters or more", path, number, f"fn {name}") for path, number, name, parts in signatures() if len(parts) >= 6]
