@@ -11,7 +11,7 @@ use crate::mark::Mark;
 #[derive(Clone, Copy)]
 pub(crate) enum Cell {
     Settled(u64),
-    // Kept: the present value comes first, where a settled word has its value, so that a load asks for no mark.
+    // The present value comes first, where a settled word has its value, so that a load asks for no mark.
     Waiting { new: u64, old: u64 },
     Flushed { new: u64, old: u64 },
 }
