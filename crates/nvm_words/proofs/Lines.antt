@@ -2,7 +2,7 @@
 use Rattle.std.proofs.Common.{rules, ◌≡◌, ℕ, ◌+◌, ◌-◌, ◌*◌, ◌/◌, ◌<◌, ◌≤◌, ◌⊎◌, Bool, true, false, cond, ◌||◌, eqb, List, length, get_or, take, drop, set, Vec, sym, refl, ap, ◌∙◌, inl, inr, arith}
 use Rattle.std.proofs.lemmas.Bool.{cases_eq, cases_lt}
 use Rattle.std.proofs.lemmas.Bool.Decides.{nat_tests}
-use Rattle.std.proofs.lemmas.List.{places, take_more, take_all, get_or-set_same, get_or-set_other, get_or-take, get_or-drop}
+use Rattle.std.proofs.lemmas.List.{places, take_more, take_all, get_or-set_same, get_or-set_other, get_or-take, get_or-drop, length-take, length-drop}
 use borrow.Rule.Slice.PartMut.{put_mid}
 use Rattle.std.specs.Vec.{with_items}
 use Rattle.std.specs.declared.alloc.Global.{Global}
@@ -38,40 +38,47 @@ within_more f old mid from i r le lt before is w = elim (cases_eq w i) [
       ∙ ap (λ t. cond t (f w (cells_word old w)) (cells_word old w)) (let q : inside from i w ≡ inside from (i + 1) w = grind (arith, nat_tests) in q)
 ]
 
--- a row in which eight elements were put back
-module _ {X : Type 0} (xs part : List X) (from : ℕ) (d : X) (within : from + 8 ≤ length xs) (long : length part ≡ 8) where
-  put_before : (w : ℕ) → w < from → get_or (put_mid from (from + 8 - from) xs part) w d ≡ get_or xs w d
+-- a row in which k elements were put back
+module _ {X : Type 0} (xs part : List X) (from k : ℕ) (d : X) (within : from + k ≤ length xs) (long : length part ≡ k) where
+  put_before : (w : ℕ) → w < from → get_or (put_mid from k xs part) w d ≡ get_or xs w d
   put_before w lt = search (rules, places)
 
-  put_at : (k : ℕ) → k < 8 → get_or (put_mid from (from + 8 - from) xs part) (from + k) d ≡ get_or part k d
-  put_at k lt = search (rules, places)
+  put_at : (i : ℕ) → i < k → get_or (put_mid from k xs part) (from + i) d ≡ get_or part i d
+  put_at i lt = search (rules, places)
 
-  put_behind : (w : ℕ) → from + 8 ≤ w → get_or (put_mid from (from + 8 - from) xs part) w d ≡ get_or xs w d
+  put_behind : (w : ℕ) → from + k ≤ w → get_or (put_mid from k xs part) w d ≡ get_or xs w d
   put_behind w far = search (rules, places)
 
 -- a line that was taken out, changed and put back
-module _ (f : ℕ → Word → Word) (cs part : List Cell) (from n : ℕ) (within : from + 8 ≤ length cs) (long : length part ≡ 8) (all : 8 ≤ n)
-    (changed : Within 0 n (λ k. f (from + k)) (take (from + 8 - from) (drop from cs)) part) where
-  word_put : (k : ℕ) → k < 8 → cells_word (put_mid from (from + 8 - from) cs part) (from + k) ≡ f (from + k) (cells_word cs (from + k))
-  word_put k lt =
-      let taken = take (from + 8 - from) (drop from cs) in
-      ap cell_word (put_at cs part from (Settled 0) within long k lt) ∙ changed k
-      ∙ ap (λ t. cond t (f (from + k) (cells_word taken k)) (cells_word taken k)) (let q : inside 0 n k ≡ true = grind (arith, nat_tests) in q)
-      ∙ ap (λ c. f (from + k) (cell_word c)) (get_or-take (from + 8 - from) (drop from cs) k (Settled 0) (omega arith) ∙ get_or-drop from cs k (Settled 0))
+module _ (f : ℕ → Word → Word) (cs part : List Cell) (from k n : ℕ) (eight : k ≡ 8) (within : from + 8 ≤ length cs) (same : length part ≡ length (take k (drop from cs))) (all : length (take k (drop from cs)) ≤ n)
+    (changed : Within 0 n (λ i. f (from + i)) (take k (drop from cs)) part) where
+  room : from + k ≤ length cs
+  room = omega (arith, eight, within)
 
-  pub line_put : Within from (from + 8) f cs (put_mid from (from + 8 - from) cs part)
+  long : length part ≡ k
+  long = omega (arith, same, length-take k (drop from cs), length-drop from cs, room)
+
+  word_put : (i : ℕ) → i < k → cells_word (put_mid from k cs part) (from + i) ≡ f (from + i) (cells_word cs (from + i))
+  word_put i lt =
+      let taken = take k (drop from cs) in
+      let passed : i < n = omega (arith, lt, long, same, all) in
+      ap cell_word (put_at cs part from k (Settled 0) room long i lt) ∙ changed i
+      ∙ ap (λ t. cond t (f (from + i) (cells_word taken i)) (cells_word taken i)) (let q : inside 0 n i ≡ true = grind (arith, nat_tests) in q)
+      ∙ ap (λ c. f (from + i) (cell_word c)) (get_or-take k (drop from cs) i (Settled 0) lt ∙ get_or-drop from cs i (Settled 0))
+
+  pub line_put : Within from (from + 8) f cs (put_mid from k cs part)
   line_put w = by_place (cases_lt w from) (cases_lt w (from + 8))
     where
       other : inside from (from + 8) w ≡ false → cells_word cs w ≡ cond (inside from (from + 8) w) (f w (cells_word cs w)) (cells_word cs w)
       other e = ap (λ t. cond t (f w (cells_word cs w)) (cells_word cs w)) (sym e)
 
-      by_place : (w < from) ⊎ (from ≤ w) → (w < from + 8) ⊎ (from + 8 ≤ w) → cells_word (put_mid from (from + 8 - from) cs part) w ≡ cond (inside from (from + 8) w) (f w (cells_word cs w)) (cells_word cs w)
-      by_place (inl lt) q = ap cell_word (put_before cs part from (Settled 0) within long w lt) ∙ other (grind (arith, nat_tests))
+      by_place : (w < from) ⊎ (from ≤ w) → (w < from + 8) ⊎ (from + 8 ≤ w) → cells_word (put_mid from k cs part) w ≡ cond (inside from (from + 8) w) (f w (cells_word cs w)) (cells_word cs w)
+      by_place (inl lt) q = ap cell_word (put_before cs part from k (Settled 0) room long w lt) ∙ other (grind (arith, nat_tests))
       by_place (inr ge) (inl lt) =
           let is : from + (w - from) ≡ w = omega (arith, ge) in
-          ap (cells_word (put_mid from (from + 8 - from) cs part)) (sym is) ∙ word_put (w - from) (omega (arith, ge, lt)) ∙ ap (λ k. f k (cells_word cs k)) is
+          ap (cells_word (put_mid from k cs part)) (sym is) ∙ word_put (w - from) (omega (arith, ge, lt, eight)) ∙ ap (λ i. f i (cells_word cs i)) is
           ∙ ap (λ t. cond t (f w (cells_word cs w)) (cells_word cs w)) (let q : true ≡ inside from (from + 8) w = grind (arith, nat_tests) in q)
-      by_place (inr ge) (inr far) = ap cell_word (put_behind cs part from (Settled 0) within long w far) ∙ other (grind (arith, nat_tests))
+      by_place (inr ge) (inr far) = ap cell_word (put_behind cs part from k (Settled 0) room long w (omega (arith, far, eight))) ∙ other (grind (arith, nat_tests))
 
 module _ (f : ℕ → Word → Word) (xs : List ℕ) (old : List Cell) where
   pub among_none : Among (take 0 xs) f old old
