@@ -1,28 +1,19 @@
 //! Numbers as a line has them.
-ghost use Rattle.std.specs.Prelude.{◌≡◌, ◌⊎◌, ◌≢◌, IsTrue, MatchOption, None, slice_index};
+ghost use Rattle.std.specs.Prelude.{◌≡◌, ◌<◌, ◌⊎◌, ◌≢◌, length, MatchOption, slice_index};
 ghost use Rattle.std.specs.Str.{IsUtf8};
 ghost use Rattle.lines.specs.Numerals.{word_of, level_of, ReadBack};
 
 /// How many digits a number below 2^64 has at most, behind its leading zeros.
 const MOST_DIGITS: usize = 20;
 
-/// Whether so many bytes stand behind the leading zeros that no number below 2^64 is written, whatever they are.
-fn is_overlong(word: &[u8]) -> bool
-    ensures { IsTrue result → word_of word.now ≡ None }
+/// A word behind its leading zeros, which write nothing; of zeros alone, one.
+fn significant(word: &[u8]) -> &[u8]
+    ensures same { word_of result.now ≡ word_of word.now }
+    ensures first { 1 < length result.now → slice_index result.now 0 ≢ 48 }
 {
     match word.iter().position(|c| *c != b'0') {
-        Some(zeros) => word.len() - zeros > MOST_DIGITS,
-        None => false,
-    }
-}
-
-/// The bytes behind a minus, or all of them: where these are no word, there is no level.
-fn without_minus(bytes: &[u8]) -> &[u8]
-    ensures { word_of result.now ≡ None → level_of bytes.now ≡ None }
-{
-    match bytes {
-        [b'-', word @ ..] => word,
-        _ => bytes,
+        Some(zeros) => &word[zeros..],
+        None => &word[..word.len().min(1)],
     }
 }
 
@@ -42,18 +33,19 @@ pub fn number(word: &[u8]) -> Option<u64>
     ensures value { result ≡ word_of word.now }
     ensures law { ReadBack }
 {
-    if is_overlong(word) {
+    let digits = significant(word);
+    if digits.len() > MOST_DIGITS {
         return None;
     }
-    without_plus(word)?.parse().ok()
+    without_plus(digits)?.parse().ok()
 }
 
 /// The level that a word, or a minus and a word, writes, if it fits 16 bits.
 pub fn level(text: &[u8]) -> Option<i16>
     ensures { result ≡ level_of text.now }
 {
-    if is_overlong(without_minus(text)) {
-        return None;
+    match text {
+        [b'-', word @ ..] => i16::try_from(-i64::try_from(number(word)?).ok()?).ok(),
+        _ => i16::try_from(number(text)?).ok(),
     }
-    without_plus(text)?.parse().ok()
 }

@@ -30,6 +30,11 @@ fn every_tab_parts_fields(rt: HostRuntime) {
 #[test]
 fn words_are_digits_below_two_to_the_64(rt: HostRuntime) {
     assert_eq!(rt; number(b"0007"), Some(7));
+    assert_eq!(rt; number(b"0000000000000000000000"), Some(0));
+    assert_eq!(rt;
+        number(b"0018446744073709551615"),
+        Some(18446744073709551615)
+    );
     assert_eq!(rt; number(b"18446744073709551615"), Some(18446744073709551615));
     assert_eq!(rt; number(b"18446744073709551616"), None);
     assert_eq!(rt; number(b"99999999999999999999"), None);
