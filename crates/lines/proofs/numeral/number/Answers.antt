@@ -1,4 +1,4 @@
-use Rattle.std.proofs.Common.{ap, sym, ◌∙◌, arith, rules}
+use Rattle.std.proofs.Common.{◌≡◌, ap, sym, ◌∙◌, arith, rules}
 use Rattle.lines.specs.Numerals.{word_of}
 use Rattle.lines.proofs.Reading.{word_parsed, no_word, no_word_over}
 use Rattle.lines.proofs.numeral.number.Goals as goal
@@ -16,6 +16,8 @@ returns-in_err-without_plus-clause-value c =
 pub returns-clause-value : goal.returns-clause-value
 returns-clause-value c =
     let text = c.in_ok-without_plus in
+    let parsed : c.ok.result ≡ word_of c.args.word.now =
     c.ok.ensures.value
     ∙ (word_parsed text.field-0.now c.parse.result c.parse.ensures.value.0 (search rules)
-    ∙ (ap word_of text.ensures.0 ∙ c.significant-digits.ensures.same))
+    ∙ (ap word_of text.ensures.0 ∙ c.significant-digits.ensures.same)) in
+    search rules
